@@ -1,0 +1,26 @@
+-- The theorem of demand 3. Assumes nothing.
+use mathlib.Core.List.{List}
+use Prim.Native.Nat.{ℕ, _^_, _≤_}
+use native.Mathlib.Omega.{arith}
+use lib.ListN.{length}
+use Rattle.cut.specs.PlainLog.{Append, noEntries, logBytes}
+use Rattle.cut.specs.Cut.{Store, after, Tags, finalLog, Demand3}
+use Rattle.cut.proofs.Layouts.{LaidLog, laid-empty, laid-log, length-bytes}
+use Rattle.cut.proofs.Appending.{Holding, empty, run, same-seen}
+use Rattle.cut.proofs.Reading.{reads-back}
+use Rattle.cut.proofs.Resuming.{restores}
+
+pub demand-3 : (k : ℕ) → 6 ≤ k → k ≤ 28 → (image : List ℕ) (appends : List Append) → Tags appends → Demand3 k image appends
+unfolding logBytes
+demand-3 k least most image appends tags =
+    let st : Store = record { used = 0; image = image } in
+    let held : Holding (length image) (finalLog k image appends) (after k st appends) =
+    run k least most (length image) noEntries st appends (empty image) in
+    let laid : LaidLog k (finalLog k image appends) = laid-log k (length image) noEntries appends tags (laid-empty k) in
+    let below : finalLog k image appends .end ≤ 2 ^ 40 = omega (arith, held .fits) in
+    record {
+      plain = same-seen k least most (length image) noEntries st appends (empty image);
+      in-all = omega (arith, length-bytes (laid .laid), laid .ends);
+      reading = reads-back k least most (finalLog k image appends) laid below;
+      appending = restores k least most (finalLog k image appends) laid below;
+    }

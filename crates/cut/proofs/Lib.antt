@@ -1,0 +1,9 @@
+pub mod Lists
+pub mod PlainLogs
+pub mod Layouts
+pub mod Appending
+pub mod Fields
+pub mod Kept
+pub mod Reading
+pub mod Resuming
+pub mod Demand3

@@ -1,0 +1,2 @@
+pub mod PlainLog
+pub mod Cut

@@ -1,0 +1,19 @@
+-- A test on two numbers, taken apart with what each answer says. Assumes nothing.
+use mathlib.Core.Path.{_≡_, refl}
+use mathlib.Core.Bool.{Bool, true, false}
+use mathlib.Core.Logic.{_⊎_, inl, inr}
+use Prim.Native.Nat.{ℕ, _≤_, _<_}
+use lib.Dec.{leb, eqb}
+use borrow.Author.Tests.{leb-true, leb-false, eqb-true, eqb-false}
+
+bool-cases : (t : Bool) → (t ≡ true) ⊎ (t ≡ false)
+bool-cases true = inl refl
+bool-cases false = inr refl
+
+pub leb-cases : (a b : ℕ) → ((leb a b ≡ true) × (a ≤ b)) ⊎ ((leb a b ≡ false) × (b < a))
+leb-cases a b =
+    elim (bool-cases (leb a b)) [ inl t ↦ inl (t, leb-true a b t) | inr f ↦ inr (f, leb-false a b f) ]
+
+pub eqb-cases : (a b : ℕ) → ((eqb a b ≡ true) × (a ≡ b)) ⊎ ((eqb a b ≡ false) × (a ≡ b → ⊥))
+eqb-cases a b =
+    elim (bool-cases (eqb a b)) [ inl t ↦ inl (t, eqb-true a b t) | inr f ↦ inr (f, eqb-false a b f) ]

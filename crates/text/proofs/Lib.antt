@@ -1,0 +1,4 @@
+pub mod Clipped
+pub mod Digits
+pub mod Examples
+pub mod Put

@@ -1,0 +1,3 @@
+pub mod Clipped
+pub mod Digits
+pub mod Put

@@ -1,0 +1,75 @@
+// Text into a buffer that the caller lends, as C's snprintf writes it: what does not fit is left out,
+// and the answer is where the text would end.
+ghost use Prim.Native.Nat.{_+_, _<_, _%_, _^_};
+ghost use mathlib.Core.Path.{_≡_};
+ghost use mathlib.Core.List.{[], _∷_};
+ghost use Rattle.text.specs.Clipped.{clipped};
+ghost use Rattle.text.specs.Digits.{decimal, hexDigit, hex8};
+ghost use Rattle.text.specs.Put.{Put};
+
+// Puts the byte b at index at.
+pub fn put_byte(out: &mut [u8], at: usize, b: u8) -> usize
+    requires { ⌜ at < 2 ^ 63 ⌝ }
+    ensures { λ r. ⌜ Put at (b ∷ []) (now (out .entry)) (now (out .exit)) r ⌝ }
+{
+    store(out, at, b);
+    at + 1
+}
+
+// Puts text from index at on.
+pub fn put_bytes(out: &mut [u8], at: usize, text: &[u8]) -> usize
+    requires { ⌜ at < 2 ^ 63 ⌝ }
+    ensures { λ r. ⌜ Put at (now (text .entry)) (now (out .entry)) (now (out .exit)) r ⌝ }
+{
+    let mut i = 0;
+    while i < text.len() {
+        store(out, at + i, text[i]);
+        i += 1;
+    }
+    at + text.len()
+}
+
+// Puts n in decimal, from index at on. The calls of itself are fewer than the digits of n.
+pub fn put_decimal(out: &mut [u8], at: usize, n: u64) -> usize
+    requires { ⌜ at < 2 ^ 63 ⌝ }
+    ensures { λ r. ⌜ Put at (decimal n) (now (out .entry)) (now (out .exit)) r ⌝ }
+{
+    if n < 10 {
+        return put_byte(out, at, 48 + n as u8);
+    }
+    let next = put_decimal(out, at, n / 10);
+    store(out, next, 48 + (n % 10) as u8);
+    next + 1
+}
+
+// Puts n as eight hexadecimal digits, from index at on.
+pub fn put_hex8(out: &mut [u8], at: usize, n: u32) -> usize
+    requires { ⌜ at < 2 ^ 63 ⌝ }
+    ensures { λ r. ⌜ Put at (hex8 n) (now (out .entry)) (now (out .exit)) r ⌝ }
+{
+    let mut done = 0;
+    let mut left: usize = 8;
+    while left > 0 {
+        left -= 1;
+        store(out, at + done, hex_digit(n >> (4 * left)));
+        done += 1;
+    }
+    at + 8
+}
+
+// Stores b at index at, unless the buffer ends before it.
+fn store(out: &mut [u8], at: usize, b: u8)
+    ensures { λ _. ⌜ now (out .exit) ≡ clipped (now (out .entry)) at (b ∷ []) ⌝ }
+{
+    if at < out.len() {
+        out[at] = b;
+    }
+}
+
+// The hexadecimal digit of the low four bits of n.
+fn hex_digit(n: u32) -> u8
+    ensures { λ r. ⌜ r ≡ hexDigit (n % 16) ⌝ }
+{
+    let d = (n % 16) as u8;
+    if d < 10 { 48 + d } else { 87 + d }
+}

@@ -1,16 +1,15 @@
 -- The theorem of demand 3. Assumes nothing.
-use mathlib.Core.List.{List}
-use Prim.Native.Nat.{ℕ, _^_, _≤_}
+use Prim.Native.Nat.{_^_, _≤_}
 use native.Mathlib.Omega.{arith}
 use lib.ListN.{length}
-use Rattle.cut.specs.PlainLog.{Append, noEntries, logBytes}
-use Rattle.cut.specs.Cut.{Store, after, Tags, finalLog, Demand3}
+use Rattle.cut.specs.PlainLog.{noEntries, logBytes}
+use Rattle.cut.specs.Cut.{Store, after, finalLog, Demand-3}
 use Rattle.cut.proofs.Layouts.{LaidLog, laid-empty, laid-log, length-bytes}
 use Rattle.cut.proofs.Appending.{Holding, empty, run, same-seen}
 use Rattle.cut.proofs.Reading.{reads-back}
 use Rattle.cut.proofs.Resuming.{restores}
 
-pub demand-3 : (k : ℕ) → 6 ≤ k → k ≤ 28 → (image : List ℕ) (appends : List Append) → Tags appends → Demand3 k image appends
+pub demand-3 : Demand-3
 unfolding logBytes
 demand-3 k least most image appends tags =
     let st : Store = record { used = 0; image = image } in

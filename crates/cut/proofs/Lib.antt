@@ -7,3 +7,4 @@ pub mod Kept
 pub mod Reading
 pub mod Resuming
 pub mod Demand3
+pub mod Calls

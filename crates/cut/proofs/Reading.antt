@@ -18,6 +18,7 @@ use Rattle.wal.specs.Checks.{unless}
 use Rattle.wal.specs.Entries.{Entry, endOf}
 use Rattle.wal.specs.Walk.{Stop, END, ZEROS, TORN, stop, go, list, move, moveAt, walkAt, listing, stopped, walk}
 use Rattle.wal.proofs.Regions.{size-most}
+use Rattle.wal.proofs.Steps.{walk-by-steps}
 use Rattle.wal.proofs.Looks.{look-past, look-region-full, look-no-header, look-blank, look-cut, look-whole}
 use Rattle.wal.proofs.Walks.{walk-stop, walk-go, walk-list}
 use Rattle.cut.specs.PlainLog.{Log, bytesFrom, logBytes}
@@ -177,4 +178,8 @@ pub reads-back : (k : ℕ) → 6 ≤ k → k ≤ 28 → (log : Log) → LaidLog 
 unfolding walk unless kept resumeAt logBytes
 reads-back k least most log laid below c found by holds =
     let r = reads k most found (logBytes log) c (holds .same) (laid .laid) refl (omega arith) (omega (arith, laid .ends)) in
-    record { word = r .0; reads = rw (no-refusal k least most c (length found) (omega (arith, holds .room))) (r .1) }
+    record {
+      word = r .0;
+      by-steps = walk-by-steps k found c;
+      reads = rw (no-refusal k least most c (length found) (omega (arith, holds .room))) (r .1);
+    }

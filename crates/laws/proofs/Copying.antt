@@ -1,12 +1,14 @@
 -- The invariant of a loop that writes a list element by element, with its laws at the start, at a turn and at the end. Assumes nothing.
-use mathlib.Core.Path.{_≡_, refl, ap, _∙_}
+use mathlib.Core.Path.{_≡_, refl, sym, ap, _∙_}
 use mathlib.Core.List.{List}
 use Prim.Native.Nat.{ℕ, _+_, _≤_, _<_}
+use native.Mathlib.Nat.{zero-add}
 use native.Mathlib.Numerals.{add-one}
 use native.Mathlib.Omega.{arith}
 use lib.ListN.{length, set, getD, length-set}
 use lib.Seq.{paste, paste-zero, paste-suc, take-length}
-use Rattle.laws.specs.Bytes.{written}
+use Rattle.laws.specs.Bytes.{written, bytesAt}
+use Rattle.laws.proofs.Written.{length-bytesAt, getD-bytesAt, written-whole}
 
 -- s is s₀ with the first i elements of v written from index p on
 pub record Copying (s₀ : List ℕ) (p : ℕ) (v : List ℕ) (s : List ℕ) (i : ℕ) : Type 0 where
@@ -31,3 +33,15 @@ module _ {s₀ : List ℕ} {p : ℕ} {v s : List ℕ} {i : ℕ} (h : Copying s�
   done all =
       let e : i ≡ length v = omega arith in
       h .so-far ∙ rw (e, take-length v)
+
+-- an array of n elements that takes those of s from index p on
+module _ (s : List ℕ) (p n : ℕ) {b₀ b : List ℕ} {i : ℕ} (h : Copying b₀ 0 (bytesAt s p n) b i) (as-long : length b₀ ≡ n) (fits : p + n ≤ length s) where
+  pub next-taken : i < n → Copying b₀ 0 (bytesAt s p n) (set b i (getD s (p + i) 0)) (i + 1)
+  next-taken more =
+      let l : length (bytesAt s p n) ≡ n = length-bytesAt s p n fits in
+      rw (zero-add i, getD-bytesAt s p n i more) at (next h (omega arith) (omega arith))
+
+  pub all-taken : n ≤ i → b ≡ bytesAt s p n
+  all-taken all =
+      let l : length (bytesAt s p n) ≡ n = length-bytesAt s p n fits in
+      done h (omega arith) ∙ written-whole b₀ (bytesAt s p n) (l ∙ sym as-long)

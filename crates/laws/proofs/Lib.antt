@@ -2,3 +2,4 @@ pub mod Tests
 pub mod Written
 pub mod LittleEndian
 pub mod Copying
+pub mod Parses

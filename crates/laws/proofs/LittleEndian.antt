@@ -109,3 +109,8 @@ stored-four s p x h =
 -- eight bytes are the low four and the high four
 pub le-eight : (x : ℕ) → le 8 x ≡ le 4 (x % 4294967296) ++ le 4 (x / 4294967296)
 le-eight x = le-add 4 4 x ∙ ap (λ (l : List ℕ). l ++ le 4 (x / 4294967296)) (sym (le-mod 4 x))
+
+-- a number of one byte
+pub ofLe-one : (s : List ℕ) (p : ℕ) → p < length s → ofLe (bytesAt s p 1) ≡ getD s p 0
+unfolding ofLe bytesAt
+ofLe-one s p h = omega (arith, ofLe-cons s p 0 h)

@@ -2,10 +2,10 @@
 use mathlib.Core.Path.{_≡_, refl, sym, ap, _∙_, subst}
 use mathlib.Core.List.{List, [], _∷_, _++_, append-assoc, append-nil}
 use Prim.Native.Nat.{ℕ, zero, suc, _+_, _-_, _≤_, _<_}
-use native.Mathlib.Nat.{add-zero, add-assoc}
+use native.Mathlib.Nat.{add-zero, zero-add, add-assoc}
 use native.Mathlib.Omega.{arith}
 use lib.ListN.{length, take, drop, set, getD, replicate, length-append, length-take, length-drop, length-replicate, take-append-drop}
-use lib.Seq.{take-append-le, drop-append-le, drop-append-add, take-append-add, take-at, drop-at, drop-drop, take-take, length-take-le, take-append-seam, drop-append-seam, set-split, take-add, append-snoc}
+use lib.Seq.{take-append-le, drop-append-le, drop-append-add, take-append-add, take-at, drop-at, drop-drop, take-take, length-take-le, take-append-seam, drop-append-seam, set-split, take-add, append-snoc, getD-take, getD-drop, drop-length}
 use native.Mathlib.Numerals.{add-one}
 use Rattle.laws.specs.Bytes.{bytesAt, written, zeros}
 
@@ -91,3 +91,12 @@ unfolding zeros
 getD-zeros zero i = refl
 getD-zeros (suc n) zero = refl
 getD-zeros (suc n) (suc i) = getD-zeros n i
+
+pub getD-bytesAt : (s : List ℕ) (p n i : ℕ) → i < n → getD (bytesAt s p n) i 0 ≡ getD s (p + i) 0
+unfolding bytesAt
+getD-bytesAt s p n i h = rw (getD-take, getD-drop)
+
+-- what is written over a whole list is the list
+pub written-whole : (s v : List ℕ) → length v ≡ length s → written s 0 v ≡ v
+unfolding written
+written-whole s v h = rw (zero-add (length v), h, drop-length s, append-nil v)

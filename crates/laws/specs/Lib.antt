@@ -1,3 +1,4 @@
 pub mod Pick
 pub mod Bytes
 pub mod Ascii
+pub mod Parse

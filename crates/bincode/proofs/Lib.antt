@@ -1,0 +1,4 @@
+mod Examples
+pub mod Rules
+pub mod Found
+pub mod Cursors

@@ -1,0 +1,3 @@
+pub mod Bincode
+pub mod Answers
+pub mod Cursors

@@ -1,0 +1,3 @@
+mod Places
+pub mod Found
+pub mod Passes

@@ -1,0 +1,3 @@
+pub mod Wholes
+pub mod Blocks
+pub mod Decodes

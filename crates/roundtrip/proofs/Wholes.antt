@@ -1,0 +1,23 @@
+-- A list that is a record, or elements in a row, and nothing else. Assumes nothing.
+use mathlib.Core.Path.{_≡_, ap₂}
+use mathlib.Core.List.{List, _++_}
+use Prim.Native.Nat.{ℕ, zero-le}
+use lib.ListN.{length}
+use Rattle.laws.specs.Bytes.{le}
+use Rattle.laws.specs.Parse.{Parser, got, many}
+use Rattle.laws.proofs.Parses.{many-length}
+use Rattle.bincode.specs.Bincode.{vecBytes}
+use Rattle.roundtrip.specs.RoundTrip.{AllBytes}
+use Rattle.roundtrip.proofs.Inverse.{Inverse}
+use Rattle.roundtrip.proofs.Spans.{all}
+use Rattle.roundtrip.proofs.Rules.{many-forth}
+
+module _ {A : Type 0} {f : Parser A} {layout : A → List ℕ} {Valid : A → Type 0} (inv : Inverse f layout Valid) (s : List ℕ) (bytes : AllBytes s) where
+  -- its bytes are those of the record
+  pub record-bytes : {x : A} → f s 0 ≡ got x (length s) → layout x ≡ s
+  record-bytes h = all (inv .encoded bytes h .spans)
+
+  -- behind their count they are the list
+  pub list-bytes : (n : ℕ) {xs : List A} → many f n s 0 ≡ got xs (length s) → vecBytes layout xs ≡ le 8 n ++ s
+  unfolding vecBytes
+  list-bytes n h = ap₂ (λ (k : ℕ) (v : List ℕ). le 8 k ++ v) (many-length f s n 0 h) (all (many-forth inv s bytes n 0 zero-le h .spans))

@@ -1,0 +1,9 @@
+pub mod Lexicographic
+pub mod Words
+pub mod Rows
+pub mod Ascending
+pub mod Places
+pub mod Leading
+pub mod Comparing
+pub mod Testing
+pub mod Searching

@@ -1,0 +1,193 @@
+// Tables of words that a caller lends, as rows of eight words: a key of six, and two of value.
+// Lengths are in words, counts in rows. Each function asks that its rows lie within the table:
+// its callers have tested that.
+ghost use mathlib.Core.Path.{_≡_};
+ghost use mathlib.Core.List.{_++_};
+ghost use Prim.Native.Nat.{_+_, _-_, _*_, _≤_};
+ghost use lib.ListN.{length};
+ghost use Rattle.laws.specs.Bytes.{bytesAt, written, zeros};
+ghost use Rattle.rows.specs.Rows.{rowsOf, rowAt, key, compared, Ascending, ascendingb, placeOf, leadingBelow};
+
+// Where one key stands to another.
+pub enum Order {
+    Below,
+    Equal,
+    Above,
+}
+
+// Where a key is, or where a row with that key belongs.
+pub enum Place {
+    At(usize),
+    Gap(usize),
+}
+
+// Zeros the n words from `at` on.
+fn zero_words(t: &mut [u64], at: usize, n: usize)
+    requires { ⌜ at + n ≤ length (now t) ⌝ }
+    ensures { λ _. ⌜ now (t .exit) ≡ written (now (t .entry)) at (zeros n) ⌝ }
+{
+    let mut j = 0;
+    while j < n {
+        t[at + j] = 0;
+        j += 1;
+    }
+}
+
+// Zeros the whole table.
+pub fn clear(t: &mut [u64])
+    ensures { λ _. ⌜ now (t .exit) ≡ zeros (length (now (t .entry))) ⌝ }
+{
+    zero_words(t, 0, t.len());
+}
+
+// Stores a row in the place of row i.
+pub fn put_row(t: &mut [u64], i: usize, row: [u64; 8])
+    requires { ⌜ 8 * i + 8 ≤ length (now t) ⌝ }
+    ensures { λ _. ⌜ now (t .exit) ≡ written (now (t .entry)) (8 * i) row ⌝ }
+{
+    let at = 8 * i;
+    let mut j = 0;
+    while j < 8 {
+        t[at + j] = row[j];
+        j += 1;
+    }
+}
+
+// Moves the n words from `at` on up by one row, the last one first: each is read before it is
+// overwritten.
+fn move_up(t: &mut [u64], at: usize, n: usize)
+    requires { ⌜ at + n + 8 ≤ length (now t) ⌝ }
+    ensures { λ _. ⌜ now (t .exit) ≡ written (now (t .entry)) (at + 8) (bytesAt (now (t .entry)) at n) ⌝ }
+{
+    let mut j = n;
+    while 0 < j {
+        j -= 1;
+        t[at + j + 8] = t[at + j];
+    }
+}
+
+// Moves the n words from `from` on to the start of the table, the first one first.
+fn move_down(t: &mut [u64], from: usize, n: usize)
+    requires { ⌜ from + n ≤ length (now t) ⌝ }
+    ensures { λ _. ⌜ now (t .exit) ≡ written (now (t .entry)) 0 (bytesAt (now (t .entry)) from n) ⌝ }
+{
+    let mut j = 0;
+    while j < n {
+        t[j] = t[from + j];
+        j += 1;
+    }
+}
+
+// Puts a row before row i: the rows from i on move up by one.
+pub fn insert_row(t: &mut [u64], count: usize, i: usize, row: [u64; 8])
+    requires { ⌜ (i ≤ count) × (8 * count + 8 ≤ length (now t)) ⌝ }
+    ensures { λ _. ⌜ now (t .exit) ≡ written (now (t .entry)) (8 * i) (row ++ bytesAt (now (t .entry)) (8 * i) (8 * (count - i))) ⌝ }
+{
+    move_up(t, 8 * i, 8 * (count - i));
+    put_row(t, i, row);
+}
+
+// Removes the first n rows: the others move down, and what they leave is zeroed.
+pub fn drop_rows(t: &mut [u64], count: usize, n: usize)
+    requires { ⌜ (n ≤ count) × (8 * count ≤ length (now t)) ⌝ }
+    ensures { λ _. ⌜ now (t .exit) ≡ written (now (t .entry)) 0 (bytesAt (now (t .entry)) (8 * n) (8 * (count - n)) ++ zeros (8 * n)) ⌝ }
+{
+    move_down(t, 8 * n, 8 * (count - n));
+    zero_words(t, 8 * (count - n), 8 * n);
+}
+
+// Where the key of row i stands to k.
+pub fn compare_key(t: &[u64], i: usize, k: [u64; 6]) -> Order
+    requires { ⌜ 8 * i + 6 ≤ length (now t) ⌝ }
+    ensures { λ r. ⌜ r ≡ compared (key (rowAt (now (t .entry)) i)) k ⌝ }
+{
+    let at = 8 * i;
+    let mut j = 0;
+    while j < 6 {
+        let x = t[at + j];
+        let y = k[j];
+        if x < y {
+            return Order::Below;
+        }
+        if y < x {
+            return Order::Above;
+        }
+        j += 1;
+    }
+    Order::Equal
+}
+
+// Finds k among ascending rows by halves: rows before `low` are below it, rows from `high` on
+// above.
+fn search(t: &[u64], count: usize, k: [u64; 6]) -> Place
+    requires { ⌜ (8 * count ≤ length (now t)) × Ascending (rowsOf count (now t)) ⌝ }
+    ensures { λ r. ⌜ r ≡ placeOf k (rowsOf count (now (t .entry))) ⌝ }
+{
+    let mut low = 0;
+    let mut high = count;
+    while low < high {
+        let middle = low + (high - low) / 2;
+        match compare_key(t, middle, k) {
+            Order::Below => low = middle + 1,
+            Order::Equal => return Place::At(middle),
+            Order::Above => high = middle,
+        }
+    }
+    Place::Gap(low)
+}
+
+// Finds k among ascending rows. Keys mostly arrive in order, so the last row is looked at first.
+pub fn find(t: &[u64], count: usize, k: [u64; 6]) -> Place
+    requires { ⌜ (8 * count ≤ length (now t)) × Ascending (rowsOf count (now t)) ⌝ }
+    ensures { λ r. ⌜ r ≡ placeOf k (rowsOf count (now (t .entry))) ⌝ }
+{
+    if count == 0 {
+        return Place::Gap(0);
+    }
+    let last = count - 1;
+    match compare_key(t, last, k) {
+        Order::Below => Place::Gap(count),
+        Order::Equal => Place::At(last),
+        Order::Above => search(t, last, k),
+    }
+}
+
+// The key of row i.
+pub fn key_at(t: &[u64], i: usize) -> [u64; 6]
+    requires { ⌜ 8 * i + 6 ≤ length (now t) ⌝ }
+    ensures { λ r. ⌜ r ≡ key (rowAt (now (t .entry)) i) ⌝ }
+{
+    let at = 8 * i;
+    [t[at], t[at + 1], t[at + 2], t[at + 3], t[at + 4], t[at + 5]]
+}
+
+// Whether each key is strictly below the next.
+pub fn check_ascending(t: &[u64], count: usize) -> bool
+    requires { ⌜ 8 * count ≤ length (now t) ⌝ }
+    ensures { λ r. ⌜ r ≡ ascendingb (rowsOf count (now (t .entry))) ⌝ }
+{
+    let mut i = 0;
+    while i + 1 < count {
+        match compare_key(t, i, key_at(t, i + 1)) {
+            Order::Below => i += 1,
+            Order::Equal => return false,
+            Order::Above => return false,
+        }
+    }
+    true
+}
+
+// The index of the first row whose first word is at least p, or the count where there is none.
+pub fn position_of_first_from(t: &[u64], count: usize, p: u64) -> usize
+    requires { ⌜ 8 * count ≤ length (now t) ⌝ }
+    ensures { λ r. ⌜ r ≡ leadingBelow p (rowsOf count (now (t .entry))) ⌝ }
+{
+    let mut i = 0;
+    while i < count {
+        if p <= t[8 * i] {
+            return i;
+        }
+        i += 1;
+    }
+    i
+}

@@ -1,0 +1,3 @@
+mod Examples
+pub mod Found
+pub mod References

@@ -46,7 +46,12 @@ fn locator(r: &mut StdRng) -> TransactionLocator {
 }
 
 fn statement(r: &mut StdRng) -> BaseStatement {
-    match r.gen_range(0..5) {
+    let variant = r.gen_range(0..5);
+    statement_of(variant, r)
+}
+
+fn statement_of(variant: u8, r: &mut StdRng) -> BaseStatement {
+    match variant {
         0 => BaseStatement::Share(Transaction::new((0..r.gen_range(0..12)).map(|_| r.gen()).collect())),
         1 => BaseStatement::Vote(locator(r), Vote::Accept),
         2 => BaseStatement::Vote(locator(r), Vote::Reject(None)),
@@ -78,8 +83,8 @@ pub fn records() -> Vec<(u8, Vec<u8>)> {
         out.push((LOCATOR, ser(&|r| bincode::serialize(&locator(r)).unwrap(), r)));
         out.push((RANGE, ser(&|r| bincode::serialize(&TransactionLocatorRange::one(locator(r))).unwrap(), r)));
     }
-    for _ in 0..8 {
-        out.push((STATEMENT, bincode::serialize(&statement(r)).unwrap()));
+    for variant in [0, 1, 2, 3, 4, 0, 0, 4] {
+        out.push((STATEMENT, bincode::serialize(&statement_of(variant, r)).unwrap()));
     }
     for (is, ss) in [(0, 0), (1, 0), (0, 1), (2, 2), (5, 3), (0, 6)] {
         out.push((BLOCK, block(is, ss, r)));

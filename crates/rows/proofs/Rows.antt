@@ -8,8 +8,8 @@ use native.Mathlib.Omega.{arith}
 use lib.ListN.{length, take, drop, set, getD, length-append}
 use lib.Seq.{take-add, take-take, take-nil, drop-drop, take-at, drop-at, take-all, getD-at, getD-take, getD-drop, set-split, length-take-le}
 use Rattle.laws.specs.Bytes.{bytesAt, written, zeros}
-use Rattle.laws.proofs.Written.{length-bytesAt, length-zeros, drop-written}
-use Rattle.rows.proofs.Words.{getD-bytesAt, bytesAt-words}
+use Rattle.laws.proofs.Written.{length-bytesAt, length-zeros, drop-written, getD-bytesAt}
+use Rattle.rows.proofs.Words.{bytesAt-words}
 use Rattle.rows.specs.Rows.{rowsOf, rowAt, flat, key}
 
 pub length-rowsOf : (n : ℕ) (w : List ℕ) → length (rowsOf n w) ≡ n

@@ -9,13 +9,7 @@ use lib.Seq.{drop-cons, drop-at, getD-take, getD-drop, length-take-le, drop-past
 use Rattle.laws.specs.Bytes.{bytesAt, written}
 use Rattle.laws.proofs.Copying.{Copying}
 use Rattle.laws.proofs.Copying as copying
-use Rattle.laws.proofs.Written.{written-nothing, written-one, take-written, length-bytesAt}
-
--- what is written over the whole is what is left
-pub written-whole : (s v : List ℕ) → length v ≡ length s → written s 0 v ≡ v
-unfolding written
-written-whole s v e =
-    ap (λ (l : List ℕ). v ++ l) (drop-of-length-le s {i = 0 + length v} (omega arith)) ∙ append-nil v
+use Rattle.laws.proofs.Written.{written-nothing, written-one, take-written, length-bytesAt, getD-bytesAt}
 
 -- what is written in two steps, the second just before the first, is written at once
 pub written-before : (s : List ℕ) (p q : ℕ) (a b : List ℕ) → q ≤ length s → q ≡ p + length a
@@ -57,10 +51,6 @@ bytesAt-words s p (suc n) h =
 bytesAt-none : (s : List ℕ) (p n : ℕ) → n ≡ 0 → bytesAt s p n ≡ []
 unfolding bytesAt
 bytesAt-none s p n e = rw e
-
-pub getD-bytesAt : (s : List ℕ) (p n i : ℕ) → i < n → getD (bytesAt s p n) i 0 ≡ getD s (p + i) 0
-unfolding bytesAt
-getD-bytesAt s p n i h = rw (getD-take, getD-drop)
 
 -- The loop that moves n words up by eight, from the last one down to index `at + j`.
 pub record Raised (s₀ : List ℕ) (at n : ℕ) (s : List ℕ) (j : ℕ) : Type 0 where

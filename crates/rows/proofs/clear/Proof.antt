@@ -4,7 +4,7 @@ use borrow.Author.Needs.{needs}
 use lib.ListN.{length}
 use Rattle.laws.specs.Bytes.{zeros}
 use Rattle.laws.proofs.Written.{length-zeros}
-use Rattle.rows.proofs.Words.{written-whole}
+use Rattle.laws.proofs.Written.{written-whole}
 use Rattle.rows.proofs.clear.Statement.{statement}
 use Rattle.rows.proofs.clear.Tie as tie
 

@@ -1,0 +1,3 @@
+pub mod Applied
+pub mod Examples
+pub mod Sets

@@ -19,6 +19,7 @@ use Rattle.wal.specs.Walk.{END}
 use Rattle.rows.specs.Rows.{compared, choose}
 use Rattle.replay.specs.Items.{judge, Read, blockIn}
 use Rattle.replay.specs.Rules.{lastOf, gather, leaves, allLeave, canBePending, pending, stateIn, stateOf, afterState, blockOf, blocks, unprocessed, ownIn, highestOf, firstAt, ownReference, sortKey, insert, setOf, commitsIn, commits, committed, lastLeader, latest, index, highestRound}
+use Rattle.replay.specs.Keys.{ofBe, digestWords}
 use Rattle.replay.specs.Recovery.{Lent, Recovery, refused, recovered, committeeCheck, present, blockCheck, rowsCheck, entryCheck, Scanned, scan, scanned, refusedAt, badPayload, decoded}
 
 ref : ℕ → ℕ → BlockReference
@@ -96,3 +97,8 @@ kept : (starts (scanned-by (at 0 2 (zeros 8) ∷ at 64 2 (zeros 8) ∷ own 128 6
     × (starts (scanned-by (at 0 2 (zeros 8) ∷ own 128 (2 ^ 64 - 1) 1 ∷ [])) ≡ [])
 unfolding starts scanned-by roomy own at blockOfRound ref pick bytesAt zeros le ofLe then raw number many joined answer bool boolBytes vec vecBytes byteString byteStringBytes exactly digest digestBytes signature signatureBytes reference referenceBytes statement block blockBytes payload ownBlock ownBlockBytes commitData commit unless compared choose judge blockIn lastOf gather leaves allLeave canBePending pending stateIn stateOf afterState blockOf blocks unprocessed sortKey insert setOf commitsIn commits committed latest index present blockCheck rowsCheck entryCheck scan badPayload decoded
 kept = (refl, refl)
+
+-- a digest's first byte is the most significant of its first word, its last the least significant of its fourth
+ends : digestWords (set (set (zeros 32) 0 1) 31 2) ≡ 2 ^ 56 ∷ 0 ∷ 0 ∷ 2 ∷ []
+unfolding digestWords ofBe bytesAt zeros
+ends = refl

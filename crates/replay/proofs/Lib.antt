@@ -1,3 +1,4 @@
 pub mod Applied
+pub mod Keys
 pub mod Examples
 pub mod Sets

@@ -7,6 +7,7 @@ use Rattle.cut.specs.Cut.{Store, after, finalLog, Demand-3}
 use Rattle.cut.proofs.Layouts.{LaidLog, laid-empty, laid-log, length-bytes}
 use Rattle.cut.proofs.Appending.{Holding, empty, run, same-seen}
 use Rattle.cut.proofs.Reading.{reads-back}
+use Rattle.cut.proofs.Recovering.{recovers}
 use Rattle.cut.proofs.Resuming.{restores}
 
 pub demand-3 : Demand-3
@@ -21,5 +22,9 @@ demand-3 k least most image appends tags =
       plain = same-seen k least most (length image) noEntries st appends (empty image);
       in-all = omega (arith, length-bytes (laid .laid), laid .ends);
       reading = reads-back k least most (finalLog k image appends) laid below;
+      recovering =
+          λ c found by holds.
+          recovers k least most (finalLog k image appends) below c found by holds
+          (reads-back k least most (finalLog k image appends) laid below c found by holds);
       appending = restores k least most (finalLog k image appends) laid below;
     }

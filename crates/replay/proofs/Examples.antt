@@ -19,7 +19,7 @@ use Rattle.wal.specs.Walk.{END}
 use Rattle.rows.specs.Rows.{compared, choose}
 use Rattle.replay.specs.Items.{judge, Read, blockIn}
 use Rattle.replay.specs.Rules.{lastOf, gather, leaves, allLeave, canBePending, pending, stateIn, stateOf, afterState, blockOf, blocks, unprocessed, ownIn, highestOf, firstAt, ownReference, sortKey, insert, setOf, commitsIn, commits, committed, lastLeader, latest, index, highestRound}
-use Rattle.replay.specs.Keys.{ofBe, digestWords}
+use Rattle.index.specs.Keys.{ofBe, digestWords}
 use Rattle.replay.specs.Recovery.{Lent, Recovery, refused, recovered, committeeCheck, present, blockCheck, rowsCheck, entryCheck, Scanned, scan, scanned, refusedAt, badPayload, decoded}
 
 ref : ℕ → ℕ → BlockReference

@@ -1,4 +1,4 @@
 pub mod Items
 pub mod Rules
+pub mod Starts
 pub mod Recovery
-pub mod Keys

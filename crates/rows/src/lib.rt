@@ -7,6 +7,7 @@ ghost use Prim.Native.Nat.{_+_, _-_, _*_, _≤_};
 ghost use lib.ListN.{length};
 ghost use Rattle.laws.specs.Bytes.{bytesAt, written, zeros};
 ghost use Rattle.rows.specs.Rows.{rowsOf, rowAt, key, compared, Ascending, ascendingb, placeOf, leadingBelow};
+ghost use Rattle.rows.specs.Tables.{roomy, pushed, dropped, upserted, upsertCount};
 
 // Where one key stands to another.
 pub enum Order {
@@ -19,6 +20,12 @@ pub enum Order {
 pub enum Place {
     At(usize),
     Gap(usize),
+}
+
+// How many rows there are once a row is stored, or that there is no room for it.
+pub enum Upserted {
+    Count(usize),
+    Full,
 }
 
 // Zeros the n words from `at` on.
@@ -190,4 +197,50 @@ pub fn position_of_first_from(t: &[u64], count: usize, p: u64) -> usize
         i += 1;
     }
     i
+}
+
+// Stores a row behind the last one, and answers whether there is room for it.
+pub fn push_row(t: &mut [u64], count: usize, row: [u64; 8]) -> bool
+    requires { ⌜ 8 * count ≤ length (now t) ⌝ }
+    ensures { λ r. ⌜ r ≡ roomy (length (now (t .entry))) count ⌝ }
+    ensures { λ _. ⌜ now (t .exit) ≡ pushed (now (t .entry)) count row ⌝ }
+{
+    if t.len() - 8 * count < 8 {
+        return false;
+    }
+    put_row(t, count, row);
+    true
+}
+
+// Removes the leading rows whose first word is below p, and answers how many rows are left.
+pub fn drop_before(t: &mut [u64], count: usize, p: u64) -> usize
+    requires { ⌜ 8 * count ≤ length (now t) ⌝ }
+    ensures { λ r. ⌜ r ≡ count - leadingBelow p (rowsOf count (now (t .entry))) ⌝ }
+    ensures { λ _. ⌜ now (t .exit) ≡ dropped (now (t .entry)) count (leadingBelow p (rowsOf count (now (t .entry)))) ⌝ }
+{
+    let n = position_of_first_from(t, count, p);
+    drop_rows(t, count, n);
+    count - n
+}
+
+// Stores a row among ascending rows: in the place of the row with its key, or at the place of its key.
+pub fn upsert_row(t: &mut [u64], count: usize, row: [u64; 8]) -> Upserted
+    requires { ⌜ (8 * count ≤ length (now t)) × Ascending (rowsOf count (now t)) ⌝ }
+    ensures { λ r. ⌜ r ≡ upsertCount (now (t .entry)) count row ⌝ }
+    ensures { λ _. ⌜ now (t .exit) ≡ upserted (now (t .entry)) count row ⌝ }
+{
+    let k = [row[0], row[1], row[2], row[3], row[4], row[5]];
+    match find(t, count, k) {
+        Place::At(i) => {
+            put_row(t, i, row);
+            Upserted::Count(count)
+        }
+        Place::Gap(i) => {
+            if t.len() - 8 * count < 8 {
+                return Upserted::Full;
+            }
+            insert_row(t, count, i, row);
+            Upserted::Count(count + 1)
+        }
+    }
 }

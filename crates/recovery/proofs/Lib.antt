@@ -1,0 +1,5 @@
+pub mod Parts
+pub mod Pending
+pub mod Scanning
+pub mod Replaying
+pub mod Answering

@@ -1,0 +1,12 @@
+pub mod BlockEntries
+pub mod Checks
+pub mod CommitPlaces
+pub mod Committing
+pub mod Digests
+pub mod Empty
+pub mod Entries
+pub mod Joining
+pub mod Kept
+pub mod Room
+pub mod Rows
+pub mod Summaries

@@ -3,7 +3,7 @@
 #
 #   RUST_SRC   the folder of the original's crates/mysticeti-core/src (default: ../shared/docs/src/.. beside this repository)
 #
-# Debian packages: cargo, librust-{bincode,serde,serde-derive,crc32fast,memmap2,parking-lot,libc,tracing,digest,eyre,rand,zeroize,hex}-dev
+# cargo and rustc 1.65 or later; Debian packages: librust-{bincode,serde,serde-derive,crc32fast,memmap2,parking-lot,libc,tracing,digest,eyre,rand,zeroize,hex}-dev
 set -eu
 cd "$(dirname "$0")"
 src=${RUST_SRC:-$(cd ../../.. && pwd)/shared/docs/src/crates/mysticeti-core/src}
@@ -19,3 +19,4 @@ directory = "$registry"
 offline = true
 CONFIG
 cargo build --offline --release
+cargo test --offline --release --no-run --test regions16

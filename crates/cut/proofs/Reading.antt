@@ -16,7 +16,8 @@ use Rattle.entry.specs.Entry.{entryBytes, checksumAt, lengthAt, tagAt, payloadA
 use Rattle.wal.specs.Region.{regionStart, nextRegion}
 use Rattle.wal.specs.Checks.{unless}
 use Rattle.wal.specs.Entries.{Entry, endOf}
-use Rattle.wal.specs.Walk.{Stop, END, ZEROS, TORN, stop, go, list, move, moveAt, walkAt, listing, stopped, walk}
+use Rattle.wal.specs.Walk.{Stop, Walk, END, ZEROS, TORN, stop, go, list, move, moveAt, walkAt, listing, stopped, walk}
+use Rattle.wal.specs.Answers.{walkedOf}
 use Rattle.wal.proofs.Regions.{size-most}
 use Rattle.wal.proofs.Steps.{walk-by-steps}
 use Rattle.wal.proofs.Looks.{look-past, look-region-full, look-no-header, look-blank, look-cut, look-whole}
@@ -178,8 +179,11 @@ pub reads-back : (k : ℕ) → 6 ≤ k → k ≤ 28 → (log : Log) → LaidLog 
 unfolding walk unless kept resumeAt logBytes
 reads-back k least most log laid below c found by holds =
     let r = reads k most found (logBytes log) c (holds .same) (laid .laid) refl (omega arith) (omega (arith, laid .ends)) in
+    let whole : walk k found c ≡ record { entries = kept log c; ending = stopped (r .0) (resumeAt log c) } =
+    rw (no-refusal k least most c (length found) (omega (arith, holds .room))) (r .1) in
     record {
       word = r .0;
       by-steps = walk-by-steps k found c;
-      reads = rw (no-refusal k least most c (length found) (omega (arith, holds .room))) (r .1);
+      reads = whole;
+      calls = ap (λ (w : Walk). walkedOf c (w .ending)) whole;
     }

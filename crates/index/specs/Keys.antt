@@ -34,7 +34,7 @@ keyWords r = r .round ∷ r .authority ∷ digestWords (r .digest .0)
 unfoldable pub indexRow : BlockReference → ℕ → ℕ → List ℕ
 indexRow r position loaded = keyWords r ++ (position ∷ loaded ∷ [])
 
--- whether one of the rows has this round and authority
+-- whether one of the rows has this authority and round
 unfoldable pub existsAt : ℕ → ℕ → List (List ℕ) → Bool
 existsAt authority round [] = false
 existsAt authority round (r ∷ rows) =

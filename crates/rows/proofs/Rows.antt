@@ -61,7 +61,7 @@ rowsOf-add (suc m) n w =
     ∙ ap (λ (l : List ℕ). take 8 w ∷ rowsOf m (drop 8 w) ++ rowsOf n l) (drop-drop (8 * m) 8 w ∙ ap (λ (k : ℕ). drop k w) e)
 
 -- rows are made of their own words alone
-drop-take : (n m : ℕ) (l : List ℕ) → drop n (take (n + m) l) ≡ take m (drop n l)
+pub drop-take : (n m : ℕ) (l : List ℕ) → drop n (take (n + m) l) ≡ take m (drop n l)
 drop-take zero m l = ap (λ (k : ℕ). take k l) (zero-add m)
 drop-take (suc n) m [] = ap (drop (suc n)) (take-nil (suc n + m)) ∙ sym (take-nil m)
 drop-take (suc n) m (x ∷ l) = ap (λ (k : ℕ). drop (suc n) (take k (x ∷ l))) (suc-add n m) ∙ drop-take n m l

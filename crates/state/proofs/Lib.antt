@@ -9,4 +9,5 @@ pub mod Joining
 pub mod Kept
 pub mod Room
 pub mod Rows
+pub mod Spans
 pub mod Summaries

@@ -1,8 +1,32 @@
 //! The unedited Rust of the log store, beside small stand-ins for what it leans on.
 #![allow(dead_code, unused_imports, unused_variables, clippy::all)]
 
-#[path = "../rust/block_store.rs"]
-pub mod block_store;
+/// Included rather than named by its path, so that `inside` may read private fields of the untouched file.
+pub mod block_store {
+    include!("../rust/block_store.rs");
+
+    /// The index, which the store's queries answer only block by block.
+    pub mod inside {
+        use super::*;
+
+        /// Each reference with its position and whether its block is loaded.
+        pub fn index(store: &BlockStore) -> Vec<(BlockReference, WalPosition, bool)> {
+            let inner = store.inner.read();
+            let rounds = inner.index.iter();
+            rounds
+                .flat_map(|(round, blocks)| {
+                    blocks.iter().map(|(&(authority, digest), entry)| {
+                        let reference = BlockReference { authority, round: *round, digest };
+                        match entry {
+                            IndexEntry::WalPosition(position) => (reference, *position, false),
+                            IndexEntry::Loaded(position, _) => (reference, *position, true),
+                        }
+                    })
+                })
+                .collect()
+        }
+    }
+}
 #[path = "../rust/committee.rs"]
 pub mod committee;
 #[path = "."]
@@ -16,8 +40,15 @@ pub mod crypto;
 pub mod data;
 #[path = "../rust/state.rs"]
 pub mod state;
-#[path = "../rust/types.rs"]
-pub mod types;
+pub mod types {
+    include!("../rust/types.rs");
+
+    /// The test build names a type of a test module that the file does not have.
+    #[cfg(test)]
+    pub mod test {
+        pub struct Dag;
+    }
+}
 #[path = "../rust/wal.rs"]
 pub mod wal;
 
@@ -123,3 +154,10 @@ pub mod metrics {
 }
 
 pub mod corpus;
+pub mod recovery;
+
+/// The test build, in which regions have 2^16 bytes, as a program.
+#[cfg(test)]
+fn main() {
+    recovery::main();
+}

@@ -1,0 +1,516 @@
+// Runs recovery on the logs of the file `stdin` and writes what it answers: a refusal's number and
+// start and how many words of the tables it leaves other than zero, or the recovered state. The
+// tables are lent full of sevens, since their old contents are never read.
+//
+// `stdin` and `stdout` were made by tools/model/recovery_cases.py. Refusals, stop words, E and unread
+// counts are those of a model written from document 01. The recovered state is that of the unedited
+// Rust (tools/oracle) wherever it has an answer, and else the model's: regions of 64 and 256 bytes, and
+// torn ends.
+//
+// Numbers in `stdin` have 8 bytes. It begins with the count of cases. Each is its form, the exponent,
+// used, committee size, own authority and the words lent for each table, and then its name and its
+// image, each behind its length. Form 0 is shown in full, form 1 in a line for each cut, form 2 in one
+// line.
+ghost use Prim.Native.Nat.{_≤_};
+ghost use lib.ListN.{length};
+use bincode::Number;
+use index::FoundReference;
+use index::StoreSummary;
+use libc::STDIN_FILENO;
+use libc::STDOUT_FILENO;
+use recovery::Recovered;
+use state::Replay;
+use state::Span;
+use wal::Stop;
+
+// The arguments of a call, but for the image.
+pub struct Call {
+    pub form: u64,
+    pub k: u64,
+    pub used: u64,
+    pub size: u64,
+    pub own: u64,
+    pub pending: u64,
+    pub unprocessed: u64,
+    pub committed: u64,
+    pub index: u64,
+}
+
+// ---- Reading
+
+// The bytes from a up to e, or none where they are not all there.
+fn part(s: &[u8], a: usize, e: usize) -> &[u8] {
+    if a <= e {
+        if e <= s.len() {
+            return &s[a..e];
+        }
+    }
+    &s[..0]
+}
+
+fn plus(a: usize, b: usize) -> usize {
+    if 0xffff_ffff_ffff_ffff - a < b {
+        a
+    } else {
+        a + b
+    }
+}
+
+// The number at `at`, 0 where there is none.
+fn number_at(s: &[u8], at: usize) -> u64 {
+    let found = bincode::decode_u64(s, at);
+    match found {
+        Number::Got(n, _) => n,
+        Number::Bad => 0,
+    }
+}
+
+// The word at `at`, 0 where there is none.
+fn word_at(t: &[u64], at: usize) -> u64 {
+    if at < t.len() { t[at] } else { 0 }
+}
+
+// ---- Writing
+
+fn blank() {
+    io::write_all(STDOUT_FILENO, b" ");
+}
+
+fn end_line() {
+    io::write_all(STDOUT_FILENO, b"\n");
+}
+
+fn number(n: u64) {
+    blank();
+    io::print_decimal(STDOUT_FILENO, n);
+}
+
+fn hex(n: u64, digits: usize) {
+    blank();
+    io::print_hex(STDOUT_FILENO, n, digits);
+}
+
+fn word(stop: Stop) {
+    match stop {
+        Stop::End => io::write_all(STDOUT_FILENO, b"END"),
+        Stop::Zeros => io::write_all(STDOUT_FILENO, b"ZEROS"),
+        Stop::Torn => io::write_all(STDOUT_FILENO, b"TORN"),
+    }
+    ;
+}
+
+// ---- Checksums over words, each as 8 bytes
+
+fn feed_word(register: u32, w: u64) -> u32 {
+    let low = w % 0x1_0000_0000;
+    let high = w / 0x1_0000_0000;
+    let bytes = [
+        (low % 256) as u8,
+        (low / 0x100 % 256) as u8,
+        (low / 0x1_0000 % 256) as u8,
+        (low / 0x100_0000 % 256) as u8,
+        (high % 256) as u8,
+        (high / 0x100 % 256) as u8,
+        (high / 0x1_0000 % 256) as u8,
+        (high / 0x100_0000 % 256) as u8,
+    ];
+    checksum::update(register, &bytes)
+}
+
+fn feed_table(register: u32, t: &[u64]) -> u32 {
+    let mut c = register;
+    let mut i = 0;
+    while i < t.len() {
+        c = feed_word(c, t[i]);
+        i += 1;
+    }
+    c
+}
+
+fn feed_span(register: u32, s: Span) -> u32 {
+    let one = feed_word(register, s.there as u64);
+    let two = feed_word(one, s.at as u64);
+    feed_word(two, s.len as u64)
+}
+
+fn feed_reference(register: u32, f: FoundReference) -> u32 {
+    let r = f.reference;
+    let digest = r.digest;
+    let bytes = digest.0;
+    let one = feed_word(register, f.there as u64);
+    let two = feed_word(one, r.authority);
+    let three = feed_word(two, r.round);
+    checksum::update(three, &bytes)
+}
+
+fn feed_summary(register: u32, s: StoreSummary) -> u32 {
+    let seen = s.last_seen_by_authority;
+    let last = s.last_own_block;
+    let one = feed_word(register, s.highest_round);
+    let two = feed_table(one, &seen);
+    feed_reference(two, last)
+}
+
+// The state but for the tables.
+fn feed_state(register: u32, s: Replay) -> u32 {
+    let blocks = s.blocks;
+    let summary = blocks.summary;
+    let last_own = s.last_own_block;
+    let state = s.state;
+    let committed_state = s.committed_state;
+    let leader = s.last_committed_leader;
+    let c1 = feed_word(register, s.pending as u64);
+    let c2 = feed_word(c1, blocks.unprocessed as u64);
+    let c3 = feed_word(c2, s.committed as u64);
+    let c4 = feed_word(c3, blocks.index as u64);
+    let c5 = feed_span(c4, last_own);
+    let c6 = feed_span(c5, state);
+    let c7 = feed_span(c6, committed_state);
+    let c8 = feed_reference(c7, leader);
+    feed_summary(c8, summary)
+}
+
+// ---- The state in full
+
+fn show_sum(register: u32) {
+    hex(!register as u64, 8);
+    end_line();
+}
+
+// The count of a table and a checksum of all its words.
+fn show_table(name: &[u8], t: &[u64], count: usize) {
+    io::write_all(STDOUT_FILENO, name);
+    number(count as u64);
+    show_sum(feed_table(0xffff_ffff, t));
+}
+
+// Position, kind, and the reference's round, authority and first word of the digest, or the length.
+fn show_pending_row(t: &[u64], at: usize) {
+    io::print_decimal(STDOUT_FILENO, word_at(t, at));
+    number(word_at(t, plus(at, 1)));
+    number(word_at(t, plus(at, 2)));
+    number(word_at(t, plus(at, 3)));
+    hex(word_at(t, plus(at, 4)), 16);
+    end_line();
+}
+
+// Round, authority, first word of the digest, position.
+fn show_block_row(t: &[u64], at: usize) {
+    io::print_decimal(STDOUT_FILENO, word_at(t, at));
+    number(word_at(t, plus(at, 1)));
+    hex(word_at(t, plus(at, 2)), 16);
+    number(word_at(t, plus(at, 6)));
+    end_line();
+}
+
+fn show_pending(t: &[u64], count: usize) {
+    show_table(b"pending", t, count);
+    let mut at = 0;
+    let mut i = 0;
+    while i < count {
+        show_pending_row(t, at);
+        at = plus(at, 8);
+        i += 1;
+    }
+}
+
+fn show_blocks(name: &[u8], t: &[u64], count: usize) {
+    show_table(name, t, count);
+    let mut at = 0;
+    let mut i = 0;
+    while i < count {
+        show_block_row(t, at);
+        at = plus(at, 8);
+        i += 1;
+    }
+}
+
+// Whether it is there, its place, its length, its checksum.
+fn show_span(name: &[u8], image: &[u8], s: Span) {
+    let at = s.at;
+    let end = plus(at, s.len);
+    io::write_all(STDOUT_FILENO, name);
+    number(s.there as u64);
+    number(at as u64);
+    number(s.len as u64);
+    hex(checksum::hash(part(image, at, end)) as u64, 8);
+    end_line();
+}
+
+// Whether it is there, round, authority and the first word of the digest.
+fn show_reference(name: &[u8], f: FoundReference) {
+    let r = f.reference;
+    let key = index::key_of(r);
+    io::write_all(STDOUT_FILENO, name);
+    number(f.there as u64);
+    number(r.round);
+    number(r.authority);
+    hex(key[2], 16);
+    end_line();
+}
+
+// The highest round, the last seen rounds of the first four authorities, and a checksum of them all.
+fn show_summary(s: StoreSummary) {
+    let seen = s.last_seen_by_authority;
+    let last = s.last_own_block;
+    io::write_all(STDOUT_FILENO, b"highest");
+    number(s.highest_round);
+    io::write_all(STDOUT_FILENO, b" seen");
+    number(seen[0]);
+    number(seen[1]);
+    number(seen[2]);
+    number(seen[3]);
+    show_sum(feed_table(0xffff_ffff, &seen));
+    show_reference(b"own reference", last);
+}
+
+fn show_replay(
+    image: &[u8],
+    s: Replay,
+    pending: &[u64],
+    unprocessed: &[u64],
+    committed: &[u64],
+    index: &[u64],
+) {
+    let blocks = s.blocks;
+    let summary = blocks.summary;
+    let last_own = s.last_own_block;
+    let state = s.state;
+    let committed_state = s.committed_state;
+    let leader = s.last_committed_leader;
+    show_pending(pending, s.pending);
+    show_blocks(b"unprocessed", unprocessed, blocks.unprocessed);
+    show_blocks(b"committed", committed, s.committed);
+    show_blocks(b"index", index, blocks.index);
+    show_span(b"own block", image, last_own);
+    show_span(b"state", image, state);
+    show_span(b"committed state", image, committed_state);
+    show_reference(b"leader", leader);
+    show_summary(summary);
+}
+
+// ---- The answer
+
+fn more(n: u64) -> u64 {
+    if n < 0xffff_ffff { n + 1 } else { n }
+}
+
+// One more for each word other than zero.
+fn count_words(n: u64, t: &[u64]) -> u64 {
+    let mut m = n;
+    let mut i = 0;
+    while i < t.len() {
+        m = counted(m, t[i]);
+        i += 1;
+    }
+    m
+}
+
+fn counted(n: u64, w: u64) -> u64 {
+    if w == 0 { n } else { more(n) }
+}
+
+fn show_refusal(
+    r: Recovered,
+    pending: &[u64],
+    unprocessed: &[u64],
+    committed: &[u64],
+    index: &[u64],
+) {
+    let start = r.start;
+    let one = count_words(0, pending);
+    let two = count_words(one, unprocessed);
+    let three = count_words(two, committed);
+    let four = count_words(three, index);
+    io::write_all(STDOUT_FILENO, b"REFUSED");
+    number(r.number as u64);
+    number(start.0);
+    number(four);
+    end_line();
+}
+
+fn show_stop(r: Recovered) {
+    let stop = r.stop;
+    let end = r.end;
+    word(stop);
+    number(end.0);
+    number(r.unread);
+}
+
+// The stop, and a checksum of the state and every word of the tables.
+fn show_line(r: Recovered, pending: &[u64], unprocessed: &[u64], committed: &[u64], index: &[u64]) {
+    let s = r.replay;
+    let one = feed_table(0xffff_ffff, pending);
+    let two = feed_table(one, unprocessed);
+    let three = feed_table(two, committed);
+    let four = feed_table(three, index);
+    show_stop(r);
+    show_sum(feed_state(four, s));
+}
+
+fn show(
+    form: u64,
+    image: &[u8],
+    r: Recovered,
+    pending: &[u64],
+    unprocessed: &[u64],
+    committed: &[u64],
+    index: &[u64],
+) {
+    if r.number != 0 {
+        show_refusal(r, pending, unprocessed, committed, index);
+        return;
+    }
+    if form != 0 {
+        show_line(r, pending, unprocessed, committed, index);
+        return;
+    }
+    let s = r.replay;
+    show_stop(r);
+    end_line();
+    show_replay(image, s, pending, unprocessed, committed, index);
+}
+
+// ---- The call
+
+fn ask(
+    call: Call,
+    image: &[u8],
+    pending: &mut [u64],
+    unprocessed: &mut [u64],
+    committed: &mut [u64],
+    index: &mut [u64],
+) {
+    let r = recovery::recover(
+        call.k,
+        image,
+        call.used,
+        call.size,
+        call.own,
+        pending,
+        unprocessed,
+        committed,
+        index,
+    );
+    show(call.form, image, r, pending, unprocessed, committed, index);
+}
+
+// The words lent, of those that are there.
+fn within(n: u64, t: &[u64]) -> usize
+    ensures { λ r. ⌜ r ≤ length (now (t .entry)) ⌝ }
+{
+    if (n as usize) < t.len() {
+        n as usize
+    } else {
+        t.len()
+    }
+}
+
+// Lends the tables, each as long as the case says.
+fn lend(
+    call: Call,
+    image: &[u8],
+    pending: &mut [u64],
+    unprocessed: &mut [u64],
+    committed: &mut [u64],
+    index: &mut [u64],
+) {
+    let p = within(call.pending, pending);
+    let u = within(call.unprocessed, unprocessed);
+    let c = within(call.committed, committed);
+    let i = within(call.index, index);
+    ask(
+        call,
+        image,
+        &mut pending[..p],
+        &mut unprocessed[..u],
+        &mut committed[..c],
+        &mut index[..i],
+    );
+}
+
+fn run(call: Call, image: &[u8]) {
+    let mut pending = [7u64; 512];
+    let mut unprocessed = [7u64; 512];
+    let mut committed = [7u64; 512];
+    let mut index = [7u64; 512];
+    lend(
+        call,
+        image,
+        &mut pending,
+        &mut unprocessed,
+        &mut committed,
+        &mut index,
+    );
+}
+
+// The log cut at every byte.
+fn run_cuts(call: Call, image: &[u8]) {
+    let mut c = call;
+    let mut used = 0;
+    while used <= call.used {
+        io::print_decimal(STDOUT_FILENO, used);
+        blank();
+        c.used = used;
+        run(c, image);
+        if used == call.used {
+            return;
+        }
+        used += 1;
+    }
+}
+
+// ---- The cases
+
+fn call_at(s: &[u8], at: usize) -> Call {
+    Call {
+        form: number_at(s, at),
+        k: number_at(s, plus(at, 8)),
+        used: number_at(s, plus(at, 16)),
+        size: number_at(s, plus(at, 24)),
+        own: number_at(s, plus(at, 32)),
+        pending: number_at(s, plus(at, 40)),
+        unprocessed: number_at(s, plus(at, 48)),
+        committed: number_at(s, plus(at, 56)),
+        index: number_at(s, plus(at, 64)),
+    }
+}
+
+// The place behind the bytes whose length stands at `at`.
+fn behind(s: &[u8], at: usize) -> usize {
+    plus(plus(at, 8), number_at(s, at) as usize)
+}
+
+// The case at `at`, and the place behind it.
+fn show_case(s: &[u8], at: usize) -> usize {
+    let call = call_at(s, at);
+    let name = plus(at, 72);
+    let image = behind(s, name);
+    let end = behind(s, image);
+    io::write_all(STDOUT_FILENO, part(s, plus(name, 8), image));
+    end_line();
+    if call.form == 1 {
+        run_cuts(call, part(s, plus(image, 8), end));
+    } else {
+        run(call, part(s, plus(image, 8), end));
+    }
+    end
+}
+
+fn show_all(s: &[u8]) {
+    let count = number_at(s, 0);
+    let mut at = 8;
+    let mut i = 0;
+    while i < count {
+        i += 1;
+        io::print_decimal(STDOUT_FILENO, i);
+        blank();
+        at = show_case(s, at);
+    }
+}
+
+fn main() {
+    let mut input = [0u8; 262144];
+    let n = io::read_full(STDIN_FILENO, &mut input);
+    show_all(&input[..n]);
+}

@@ -1,0 +1,116 @@
+-- What the checks of a lent store and of a call let pass, and which number each gives. Assumes nothing.
+use mathlib.Core.Path.{_≡_, refl, sym, _∙_}
+use mathlib.Core.Bool.{Bool, true, false}
+use mathlib.Core.List.{List}
+use Prim.Native.Nat.{ℕ, zero, suc, _*_, _/_, _≤_, _<_}
+use native.Mathlib.Omega.{arith}
+use lib.Dec.{leb}
+use lib.ListN.{length}
+use borrow.Author.Tests.{leb-true, ltb-true, le-leb, lt-leb}
+use Rattle.laws.specs.Pick.{pick}
+use Rattle.wal.specs.Checks.{logCheck, unless}
+use Rattle.wal.proofs.Checks.{Sound, passed-sound, unless-passed, unless-refused}
+use Rattle.rows.specs.Rows.{rowsOf, ascendingb, Ascending}
+use Rattle.rows.proofs.Ascending.{ascendingb-decides}
+use Rattle.replay.specs.Recovery.{committeeCheck}
+use Rattle.store.specs.declared.BlockStore.{BlockStore}
+use Rattle.store.specs.Store.{indexed, authoritiesBelow, storeCheck, callCheck}
+
+-- ---- What passes
+
+pub record Checked (s : BlockStore) (index : List ℕ) : Type 0 where
+  pub some : 1 ≤ s .«committee_size»
+  pub most : s .«committee_size» ≤ 128
+  pub own : s .authority < s .«committee_size»
+  pub fits : 8 * s .rows ≤ length index
+  pub ascends : Ascending (rowsOf (s .rows) index)
+  pub authorities : authoritiesBelow (s .«committee_size») (rowsOf (s .rows) index) ≡ true
+
+-- a test, and what is checked behind it
+pick-passed : (t : Bool) {n : ℕ} → pick t n 18 ≡ 0 → (t ≡ true) × (n ≡ 0)
+unfolding pick
+pick-passed true e = (refl, e)
+pick-passed false e = absurd (omega arith)
+
+-- a check, and what is checked behind it
+unless-zero : (n : ℕ) {m : ℕ} → unless n (λ (k : ℕ). k) m ≡ 0 → (n ≡ 0) × (m ≡ 0)
+unfolding unless
+unless-zero zero e = (refl, e)
+unless-zero (suc n) e = absurd (omega arith)
+
+pub store-checked : (s : BlockStore) (index : List ℕ) → storeCheck s index ≡ 0 → Checked s index
+unfolding storeCheck committeeCheck indexed
+store-checked s index e =
+    let both = unless-zero (committeeCheck (s .«committee_size») (s .authority)) e in
+    let some = pick-passed _ (both .0) in
+    let most = pick-passed _ (some .1) in
+    let own = pick-passed _ (most .1) in
+    let fits = pick-passed _ (both .1) in
+    let ascends = pick-passed _ (fits .1) in
+    let authorities = pick-passed _ (ascends .1) in
+    record {
+      some = leb-true _ _ (some .0);
+      most = leb-true _ _ (most .0);
+      own = ltb-true _ _ (own .0);
+      fits = omega (arith, leb-true (s .rows) (length index / 8) (fits .0));
+      ascends = ascendingb-decides (rowsOf (s .rows) index) .0 (ascends .0);
+      authorities = authorities .0;
+    }
+
+-- r is the number that the call's checks gave
+module _ (k used size : ℕ) (s : BlockStore) (index : List ℕ) {r : ℕ} (is : r ≡ callCheck k used size s index) (passed : r ≡ 0) where
+  both : (logCheck k used size ≡ 0) × (storeCheck s index ≡ 0)
+  unfolding callCheck
+  both = unless-zero (logCheck k used size) (sym is ∙ passed)
+
+  pub call-log : logCheck k used size ≡ 0
+  call-log = both .0
+
+  pub call-sound : Sound k used size
+  call-sound = passed-sound k used size call-log
+
+  pub call-checked : Checked s index
+  call-checked = store-checked s index (both .1)
+
+-- ---- The numbers
+
+module _ (s : BlockStore) (index : List ℕ) where
+  pub committee-refused : (committeeCheck (s .«committee_size») (s .authority) ≡ 0 → ⊥)
+      → committeeCheck (s .«committee_size») (s .authority) ≡ storeCheck s index
+  unfolding storeCheck
+  committee-refused n = sym (unless-refused (λ (m : ℕ). m) _ (committeeCheck (s .«committee_size») (s .authority)) n)
+
+  module _ (committee : committeeCheck (s .«committee_size») (s .authority) ≡ 0) where
+    goes-on : storeCheck s index
+        ≡ pick (leb (s .rows) (length index / 8))
+        (pick (ascendingb (rowsOf (s .rows) index)) (pick (authoritiesBelow (s .«committee_size») (rowsOf (s .rows) index)) 0 18) 18)
+        18
+    unfolding storeCheck indexed
+    goes-on = unless-passed (λ (m : ℕ). m) _ (committeeCheck (s .«committee_size») (s .authority)) committee
+
+    pub rows-refused : length index / 8 < s .rows → 18 ≡ storeCheck s index
+    unfolding pick
+    rows-refused h = sym (goes-on ∙ rw (lt-leb (s .rows) (length index / 8) h))
+
+    module _ (fits : s .rows ≤ length index / 8) where
+      pub order-refused : ascendingb (rowsOf (s .rows) index) ≡ false → 18 ≡ storeCheck s index
+      unfolding pick
+      order-refused h = sym (goes-on ∙ rw (le-leb (s .rows) (length index / 8) fits, h))
+
+      module _ (ascends : ascendingb (rowsOf (s .rows) index) ≡ true) where
+        pub authorities-refused : authoritiesBelow (s .«committee_size») (rowsOf (s .rows) index) ≡ false → 18 ≡ storeCheck s index
+        unfolding pick
+        authorities-refused h = sym (goes-on ∙ rw (le-leb (s .rows) (length index / 8) fits, ascends, h))
+
+        pub store-passed : authoritiesBelow (s .«committee_size») (rowsOf (s .rows) index) ≡ true → 0 ≡ storeCheck s index
+        unfolding pick
+        store-passed h = sym (goes-on ∙ rw (le-leb (s .rows) (length index / 8) fits, ascends, h))
+
+module _ (k used size : ℕ) (s : BlockStore) (index : List ℕ) where
+  pub log-refused : (logCheck k used size ≡ 0 → ⊥) → logCheck k used size ≡ callCheck k used size s index
+  unfolding callCheck
+  log-refused n = sym (unless-refused (λ (m : ℕ). m) (storeCheck s index) (logCheck k used size) n)
+
+  pub log-passed : logCheck k used size ≡ 0 → storeCheck s index ≡ callCheck k used size s index
+  unfolding callCheck
+  log-passed e = sym (unless-passed (λ (m : ℕ). m) (storeCheck s index) (logCheck k used size) e)

@@ -1,0 +1,2 @@
+pub mod Iterators
+pub mod Writers

@@ -20,15 +20,10 @@ use Rattle.rows.specs.Tables.{Eights}
 use Rattle.rows.proofs.Lexicographic.{order-cases, not-equal, not-above, above-not-equal, first-above, first-same, compared-self, compared-equal, below-of, below-trans, irreflexive}
 use Rattle.rows.proofs.Ascending.{leads-trans, leads-none}
 use Rattle.rows.proofs.Places.{below-within, at-place, gap-place}
+use Rattle.rows.proofs.Tables.{eights-rowsOf}
 use Rattle.rows.proofs.Rows.{length-rowsOf, first-rowAt, rowsFrom, rowsFrom-cons, rowsFrom-none, drop-rowsOf}
 use Rattle.index.specs.Keys.{existsAt}
 use Rattle.index.proofs.Prefixes.{compared-append}
-
-pub rowsOf-eights : (n : ℕ) (w : List ℕ) → 8 * n ≤ length w → Eights (rowsOf n w)
-unfolding rowsOf
-rowsOf-eights zero w h = tt
-rowsOf-eights (suc n) w h =
-    (length-take-le 8 w (omega arith), rowsOf-eights n (drop 8 w) (simp length-drop (omega arith)))
 
 second-rowAt : (w : List ℕ) (i : ℕ) → getD (rowAt w i) 1 0 ≡ getD w (8 * i + 1) 0
 unfolding rowAt
@@ -178,7 +173,7 @@ module _ (authority round : ℕ) where
   module _ (t : List ℕ) (count : ℕ) (fits : 8 * count ≤ length t) (a : Ascending (rowsOf count t)) {i : ℕ} where
     pub exists-found : At i ≡ placeOf lowest (rowsOf count t) → true ≡ existsAt authority round (rowsOf count t)
     unfolding pick
-    exists-found is = sym (exists-place (rowsOf count t) (rowsOf-eights count t fits) a ∙ rw (at-place lowest (rowsOf count t) is .0))
+    exists-found is = sym (exists-place (rowsOf count t) (eights-rowsOf count t fits) a ∙ rw (at-place lowest (rowsOf count t) is .0))
 
     pub exists-not-found : Gap i ≡ placeOf lowest (rowsOf count t)
         → pick (ltb i count) (pick (eqb (getD t (8 * i) 0) round) (eqb (getD t (8 * i + 1) 0) authority) false) false
@@ -190,7 +185,7 @@ module _ (authority round : ℕ) where
         let rest : drop (below lowest (rowsOf count t)) (rowsOf count t) ≡ rowsFrom t i count =
         ap (λ (n : ℕ). drop n (rowsOf count t)) (sym (gap .1)) ∙ drop-rowsOf t i count within in
         sym (
-        exists-place (rowsOf count t) (rowsOf-eights count t fits) a
+        exists-place (rowsOf count t) (eights-rowsOf count t fits) a
         ∙ rw (gap .0, rest)
         (⊎-elim
         (λ l. rw (rowsFrom-cons t i count (l .1), lt-ltb i count (l .1), first-rowAt t i, second-rowAt t i))

@@ -17,9 +17,6 @@ use types::BlockReference;
 use types::RoundNumber;
 use wal::WalPosition;
 
-// The most authorities of a committee.
-pub const MAX_COMMITTEE: usize = 128;
-
 // A reference that may be missing; zero where it is.
 pub struct FoundReference {
     pub there: bool,

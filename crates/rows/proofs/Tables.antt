@@ -39,7 +39,7 @@ rowsOf-flat (r ∷ rows) w h =
     ∙ rowsOf-cons (length rows) r (flat rows ++ w) (h .0)
     ∙ ap (λ (l : List (List ℕ)). r ∷ l) (rowsOf-flat rows w (h .1))
 
-eights-rowsOf : (n : ℕ) (w : List ℕ) → 8 * n ≤ length w → Eights (rowsOf n w)
+pub eights-rowsOf : (n : ℕ) (w : List ℕ) → 8 * n ≤ length w → Eights (rowsOf n w)
 unfolding rowsOf
 eights-rowsOf zero w h = tt
 eights-rowsOf (suc n) w h =

@@ -19,7 +19,8 @@ use Rattle.rows.proofs.Ascending.{leads-trans, leads-none}
 use Rattle.rows.proofs.Places.{below-within, at-place, gap-place}
 use Rattle.rows.proofs.Rows.{length-rowsOf, first-rowAt, rowsFrom, rowsFrom-cons, rowsFrom-none, drop-rowsOf}
 use Rattle.index.specs.Keys.{existsAt}
-use Rattle.index.proofs.Existence.{lowest, exists-place, rowsOf-eights}
+use Rattle.rows.proofs.Tables.{eights-rowsOf}
+use Rattle.index.proofs.Existence.{lowest, exists-place}
 use Rattle.store.specs.Store.{roundThere}
 use Rattle.store.proofs.Rounds.{Past, past}
 
@@ -106,7 +107,7 @@ module _ (round : ℕ) where
   module _ (t : List ℕ) (count : ℕ) (fits : 8 * count ≤ length t) (a : Ascending (rowsOf count t)) {i : ℕ} where
     pub there-found : At i ≡ placeOf first (rowsOf count t) → true ≡ roundThere round (rowsOf count t)
     unfolding pick
-    there-found is = sym (there-place (rowsOf count t) (rowsOf-eights count t fits) a ∙ rw (at-place first (rowsOf count t) is .0))
+    there-found is = sym (there-place (rowsOf count t) (eights-rowsOf count t fits) a ∙ rw (at-place first (rowsOf count t) is .0))
 
     module _ (is : Gap i ≡ placeOf first (rowsOf count t)) where
       behind-gap : roundThere round (rowsOf count t) ≡ firstIs (rowsFrom t i count)
@@ -116,7 +117,7 @@ module _ (round : ℕ) where
           let within : i ≤ count = omega (arith, gap .1, below-within first (rowsOf count t), length-rowsOf count t) in
           let rest : drop (below first (rowsOf count t)) (rowsOf count t) ≡ rowsFrom t i count =
           ap (λ (n : ℕ). drop n (rowsOf count t)) (sym (gap .1)) ∙ drop-rowsOf t i count within in
-          there-place (rowsOf count t) (rowsOf-eights count t fits) a ∙ rw (gap .0, rest)
+          there-place (rowsOf count t) (eights-rowsOf count t fits) a ∙ rw (gap .0, rest)
 
       pub there-end : count ≤ i → false ≡ roundThere round (rowsOf count t)
       there-end h = sym (behind-gap ∙ ap firstIs (rowsFrom-none t i count h))

@@ -10,7 +10,7 @@ use Rattle.laws.proofs.Written.{length-bytesAt, getD-bytesAt}
 use Rattle.rows.specs.Rows.{rowsOf, rowAt}
 use Rattle.rows.specs.Tables.{Eights}
 use Rattle.rows.proofs.Rows.{rowsOf-add, rowsFrom}
-use Rattle.index.proofs.Existence.{rowsOf-eights}
+use Rattle.rows.proofs.Tables.{eights-rowsOf}
 
 pub word-rowAt : (w : List ℕ) (i j : ℕ) → j < 8 → getD (rowAt w i) j 0 ≡ getD w (8 * i + j) 0
 unfolding rowAt
@@ -22,7 +22,7 @@ rowsOf-next w i = rowsOf-add i 1 w
 
 pub rowsFrom-eights : (w : List ℕ) (i n : ℕ) → 8 * n ≤ length w → i ≤ n → Eights (rowsFrom w i n)
 unfolding rowsFrom
-rowsFrom-eights w i n h k = rowsOf-eights (n - i) (drop (8 * i) w) (omega (arith, length-drop (8 * i) w))
+rowsFrom-eights w i n h k = eights-rowsOf (n - i) (drop (8 * i) w) (omega (arith, length-drop (8 * i) w))
 
 -- a word stored in a part is that part written with the word in it
 pub stored-in : (w : List ℕ) (p n j x : ℕ) → j < n → p + n ≤ length w → set w (p + j) x ≡ written w p (set (bytesAt w p n) j x)

@@ -6,8 +6,6 @@ use Rattle.rows.proofs.Testing.{Tested, tested-start, tested-next, test
 use Rattle.rows.proofs.check_ascending.Statement.{statement}
 use Rattle.rows.proofs.check_ascending.Tie as tie
 
--- `rows::check_ascending` meets its contract. Assumes nothing.
-
 abbrev Inv-loop : tie.InvT-loop
 Inv-loop t count i₀ i = Tested t count i
 

@@ -5,8 +5,6 @@ use Rattle.rows.proofs.Comparing.{Comparing, comparing-start, comparing
 use Rattle.rows.proofs.compare_key.Statement.{statement}
 use Rattle.rows.proofs.compare_key.Tie as tie
 
--- `rows::compare_key` meets its contract. Assumes nothing.
-
 abbrev Inv-loop : tie.InvT-loop
 Inv-loop t i k at j₀ j = Comparing t i k j
 

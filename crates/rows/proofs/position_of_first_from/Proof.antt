@@ -8,8 +8,6 @@ use Rattle.rows.proofs.Leading.{leading-start, leading-next, leading-st
 use Rattle.rows.proofs.position_of_first_from.Statement.{statement}
 use Rattle.rows.proofs.position_of_first_from.Tie as tie
 
--- `rows::position_of_first_from` meets its contract. Assumes nothing.
-
 abbrev Inv-loop : tie.InvT-loop
 Inv-loop t count p i₀ i = (i ≤ count) × (leadingBelow p (rowsOf count t) ≡ i + leadingBelow p (rowsFrom t i count))
 

@@ -7,8 +7,6 @@ use Rattle.rows.proofs.Searching.{Searched, searched-start, searched-be
 use Rattle.rows.proofs.search.Statement.{statement}
 use Rattle.rows.proofs.search.Tie as tie
 
--- `rows::search` meets its contract. Assumes nothing.
-
 abbrev Inv-loop : tie.InvT-loop
 Inv-loop t count k low₀ high₀ low high = Searched k t count low high
 

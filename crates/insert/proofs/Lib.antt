@@ -1,0 +1,3 @@
+pub mod IndexRows
+pub mod Inserting
+pub mod Kept

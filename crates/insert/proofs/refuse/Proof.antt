@@ -1,0 +1,12 @@
+-- `insert::refuse` meets its contract: an answer that is refused holds the number, and the writer and the store as they were. Assumes nothing.
+use mathlib.Core.Path.{refl}
+use Rattle.insert.specs.Insert.{insertedOf}
+use Rattle.insert.proofs.refuse.Statement.{statement}
+use Rattle.insert.proofs.refuse.Tie as tie
+
+returns : tie.Need-returns
+unfolding insertedOf
+returns c = refl
+
+pub refuse-spec : {M : Type 1} → statement M
+refuse-spec = tie.close (tie.spec returns)

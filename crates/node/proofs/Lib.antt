@@ -1,0 +1,3 @@
+pub mod Words
+pub mod Long
+pub mod Calls

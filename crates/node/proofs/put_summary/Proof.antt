@@ -1,0 +1,40 @@
+-- `node::put_summary` meets its contract: its parts stand one behind the other. Assumes nothing.
+use borrow.Author.Needs.{needs}
+use Rattle.node.proofs.Words.{summary-put}
+use Rattle.node.proofs.put_summary.Statement.{statement}
+use Rattle.node.proofs.put_summary.Tie as tie
+
+put-reference-requires : tie.Need-put-reference-requires
+put-reference-requires c κs = search needs
+
+slice-aggregate-put-words : tie.Need-slice-aggregate-put-words
+slice-aggregate-put-words c = search needs
+
+put-words-requires : tie.Need-put-words-requires
+put-words-requires c κs = search needs
+
+slice-aggregate-put-words-2 : tie.Need-slice-aggregate-put-words-2
+slice-aggregate-put-words-2 c = search needs
+
+put-words-requires-2 : tie.Need-put-words-requires-2
+put-words-requires-2 c κs = search needs
+
+same-length : tie.Need-same-length
+same-length c = search needs
+
+returns : tie.Need-returns
+returns c =
+    let a = c .before .before .before .before .before .before .before .before .before .before .before .before .before .before .before .before .args in
+    summary-put (a .s) (a .out .now) (c .before .before .before .before .before .before .before .before .before .before .before .before .before .put-reference .ensures) (c .before .before .before .before .before .before .before .before .put-words .ensures) (c .before .before .put-words2 .ensures)
+
+pub put-summary-spec : {M : Type 1} → statement M
+put-summary-spec =
+    tie.close
+    (tie.spec
+    put-reference-requires
+    slice-aggregate-put-words
+    put-words-requires
+    slice-aggregate-put-words-2
+    put-words-requires-2
+    same-length
+    returns)

@@ -128,7 +128,7 @@ unfolding pick
 at-most-one true = omega arith
 at-most-one false = omega arith
 
-one-unloaded : (r : List ℕ) (rows : List (List ℕ)) → unloaded (r ∷ rows) ≡ pick (eqb (getD r 7 0) 0) 1 0 + unloaded rows
+pub one-unloaded : (r : List ℕ) (rows : List (List ℕ)) → unloaded (r ∷ rows) ≡ pick (eqb (getD r 7 0) 0) 1 0 + unloaded rows
 unfolding unloaded loaded pick
 one-unloaded r rows = by (eqb (getD r 7 0) 0)
   where

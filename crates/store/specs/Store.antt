@@ -7,8 +7,9 @@ use lib.ListN.{length, getD, set}
 use Rattle.laws.specs.Pick.{pick}
 use Rattle.laws.specs.Bytes.{written}
 use Rattle.wal.specs.Checks.{logCheck, unless}
-use Rattle.rows.specs.Rows.{rowsOf, flat, ascendingb}
-use Rattle.index.specs.Keys.{existsAt}
+use Rattle.types.specs.declared.BlockReference.{BlockReference}
+use Rattle.rows.specs.Rows.{rowsOf, flat, ascendingb, present}
+use Rattle.index.specs.Keys.{keyWords, existsAt}
 use Rattle.replay.specs.Recovery.{committeeCheck}
 use Rattle.state.specs.declared.Replay.{Replay}
 use Rattle.store.specs.declared.BlockStore.{BlockStore}
@@ -34,13 +35,13 @@ storeCheck s index =
     (pick (ascendingb (indexed s index)) (pick (authoritiesBelow (s .«committee_size») (indexed s index)) 0 18) 18)
     18)
 
--- "Queries and cleanup check 1, 2, 18."
+-- "Queries and cleanup check 1, 2, 18." The image has `size` bytes.
 unfoldable pub callCheck : ℕ → ℕ → ℕ → BlockStore → List ℕ → ℕ
 callCheck k used size s index = unless (logCheck k used size) (λ n. n) (storeCheck s index)
 
 -- ---- Questions that read no block
 
--- an answer, unless the call is refused
+-- an answer, unless the checks gave the number n
 unfoldable pub answered : ℕ → Bool → Answer
 answered n b = unless n Refused (pick b Yes No)
 
@@ -56,6 +57,19 @@ allExist (a ∷ authors) round rows = pick (existsAt a round rows) (allExist aut
 
 unfoldable pub allThere : List ℕ → ℕ → List (List ℕ) → Bool
 allThere authors round rows = pick (roundThere round rows) (allExist authors round rows) false
+
+-- the calls: k, the image and used, the store and its index, and the arguments
+abbrev pub blockExists : ℕ → List ℕ → ℕ → BlockStore → List ℕ → BlockReference → Answer
+blockExists k image used store index reference =
+    answered (callCheck k used (length image) store index) (present (keyWords reference) (indexed store index))
+
+abbrev pub blockExistsAt : ℕ → List ℕ → ℕ → BlockStore → List ℕ → ℕ → ℕ → Answer
+blockExistsAt k image used store index authority round =
+    answered (callCheck k used (length image) store index) (existsAt authority round (indexed store index))
+
+abbrev pub allBlocksExistAt : ℕ → List ℕ → ℕ → BlockStore → List ℕ → List ℕ → ℕ → Answer
+allBlocksExistAt k image used store index authors round =
+    answered (callCheck k used (length image) store index) (allThere authors round (indexed store index))
 
 -- ---- Cleanup
 
@@ -78,6 +92,13 @@ cleanAnswer n t rows = unless n cleaned.Refused (cleaned.Unloaded (pick (eqb t 0
 unfoldable pub cleanIndex : ℕ → ℕ → List (List ℕ) → List ℕ → List ℕ
 cleanIndex n t rows index = unless n (λ m. index) (pick (eqb t 0) index (written index 0 (flat (map (unload t) rows))))
 
+-- the call, as above: t is its round
+abbrev pub cleanupAnswer : ℕ → List ℕ → ℕ → BlockStore → List ℕ → ℕ → Cleaned
+cleanupAnswer k image used store index t = cleanAnswer (callCheck k used (length image) store index) t (indexed store index)
+
+abbrev pub cleanupIndex : ℕ → List ℕ → ℕ → BlockStore → List ℕ → ℕ → List ℕ
+cleanupIndex k image used store index t = cleanIndex (callCheck k used (length image) store index) t (indexed store index) index
+
 -- ---- The store that recovery leaves
 
 -- "all unloaded, no load counted yet"
@@ -91,6 +112,6 @@ openedOf size own r =
       summary = r .blocks .summary;
     }
 
--- the last seen round of any authority: 0 for one that has none
+-- the last seen round of any authority: 0 from 128 on
 unfoldable pub lastSeenOf : BlockStore → ℕ → ℕ
 lastSeenOf s authority = getD (s .summary .«last_seen_by_authority») authority 0

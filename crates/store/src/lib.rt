@@ -5,9 +5,8 @@ ghost use mathlib.Core.List.{map};
 ghost use Prim.Native.Nat.{_*_, _≤_};
 ghost use lib.ListN.{length};
 ghost use Rattle.laws.specs.Bytes.{written};
-ghost use Rattle.rows.specs.Rows.{rowsOf, flat, Ascending, present};
-ghost use Rattle.index.specs.Keys.{keyWords, existsAt};
-ghost use Rattle.store.specs.Store.{indexed, authoritiesBelow, storeCheck, callCheck, answered, roundThere, allExist, allThere, unload, unloads, cleanAnswer, cleanIndex, openedOf, lastSeenOf};
+ghost use Rattle.rows.specs.Rows.{rowsOf, flat, Ascending};
+ghost use Rattle.store.specs.Store.{authoritiesBelow, storeCheck, callCheck, blockExists, blockExistsAt, allBlocksExistAt, roundThere, allExist, unload, unloads, cleanupAnswer, cleanupIndex, openedOf, lastSeenOf};
 use index::FoundReference;
 use index::StoreSummary;
 use rows::Place;
@@ -143,7 +142,7 @@ pub fn block_exists(
     index: &[u64],
     reference: BlockReference,
 ) -> Answer
-    ensures { λ r. ⌜ r ≡ answered (callCheck k used (length (now (image .entry))) store (now (index .entry))) (present (keyWords reference) (indexed store (now (index .entry)))) ⌝ }
+    ensures { λ r. ⌜ r ≡ blockExists k (now (image .entry)) used store (now (index .entry)) reference ⌝ }
 {
     let number = check_call(k, image, used, store, index);
     if number != 0 {
@@ -165,7 +164,7 @@ pub fn block_exists_at_authority_round(
     authority: AuthorityIndex,
     round: RoundNumber,
 ) -> Answer
-    ensures { λ r. ⌜ r ≡ answered (callCheck k used (length (now (image .entry))) store (now (index .entry))) (existsAt authority round (indexed store (now (index .entry)))) ⌝ }
+    ensures { λ r. ⌜ r ≡ blockExistsAt k (now (image .entry)) used store (now (index .entry)) authority round ⌝ }
 {
     let number = check_call(k, image, used, store, index);
     if number != 0 {
@@ -219,7 +218,7 @@ pub fn all_blocks_exists_at_authority_round(
     authorities: &[u64],
     round: RoundNumber,
 ) -> Answer
-    ensures { λ r. ⌜ r ≡ answered (callCheck k used (length (now (image .entry))) store (now (index .entry))) (allThere (now (authorities .entry)) round (indexed store (now (index .entry)))) ⌝ }
+    ensures { λ r. ⌜ r ≡ allBlocksExistAt k (now (image .entry)) used store (now (index .entry)) (now (authorities .entry)) round ⌝ }
 {
     let number = check_call(k, image, used, store, index);
     if number != 0 {
@@ -266,8 +265,8 @@ pub fn cleanup(
     index: &mut [u64],
     t: RoundNumber,
 ) -> Cleaned
-    ensures { λ r. ⌜ r ≡ cleanAnswer (callCheck k used (length (now (image .entry))) store (now (index .entry))) t (indexed store (now (index .entry))) ⌝ }
-    ensures { λ _. ⌜ now (index .exit) ≡ cleanIndex (callCheck k used (length (now (image .entry))) store (now (index .entry))) t (indexed store (now (index .entry))) (now (index .entry)) ⌝ }
+    ensures { λ r. ⌜ r ≡ cleanupAnswer k (now (image .entry)) used store (now (index .entry)) t ⌝ }
+    ensures { λ _. ⌜ now (index .exit) ≡ cleanupIndex k (now (image .entry)) used store (now (index .entry)) t ⌝ }
 {
     let number = check_call(k, image, used, store, index);
     if number != 0 {

@@ -1,0 +1,4 @@
+pub mod Steps
+pub mod Shares
+pub mod Blocks
+pub mod Transactions

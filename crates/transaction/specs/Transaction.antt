@@ -1,0 +1,54 @@
+-- A transaction by its locator. Document 01, "Lookups": "transaction (only a Share gives one)".
+use mathlib.Core.Bool.{true, false}
+use mathlib.Core.List.{List, [], _∷_}
+use Prim.Native.Nat.{ℕ, _+_, _-_}
+use lib.ListN.{length, getD}
+use Rattle.laws.specs.Pick.{pick}
+use Rattle.laws.specs.Bytes.{bytesAt}
+use Rattle.laws.specs.Parse.{Res, bad, got, answer}
+use Rattle.bincode.specs.Cursors.{next, after}
+use Rattle.types.specs.Records.{StatementValue, share, voteOn, voteRange, statement, BlockValue, block}
+use Rattle.blocks.specs.Answers as blocks
+use Rattle.wal.specs.Checks.{unless}
+use Rattle.store.specs.declared.BlockStore.{BlockStore}
+use Rattle.lookup.specs.Lookups as lookups
+use Rattle.lookup.specs.Lookups.{BlockRead, blockAt, unloaded, counted}
+use Rattle.transaction.specs.declared.Share.{Share}
+use Rattle.transaction.specs.declared.Transaction.{Transaction}
+
+unfoldable pub noShare : Share
+noShare = record { there = false; at = 0; len = 0 }
+
+-- the bytes of a Share end where the statement does; no other statement gives any
+unfoldable pub shareOf : Res StatementValue → Share
+shareOf bad = noShare
+shareOf (got (share bytes) e) = record { there = true; at = e - length bytes; len = length bytes }
+shareOf (got (voteOn l v) e) = noShare
+shareOf (got (voteRange r) e) = noShare
+
+-- the statement with this offset in a block's bytes; there is none past the last
+unfoldable pub shareIn : List ℕ → ℕ → Share
+shareIn s offset =
+    answer noShare (λ (b : BlockValue) e. shareOf (next statement s (after statement s offset (blocks.blockOf 0 b .statements)))) (block s 0)
+
+-- behind a block's place in the image
+unfoldable pub placed : ℕ → Share → Share
+placed at t = pick (t .there) (record { there = true; at = at + t .at; len = t .len }) noShare
+
+unfoldable pub refusedAnswer : ℕ → BlockStore → Transaction
+refusedAnswer n s = record { number = n; share = noShare; store = s }
+
+-- of the row with the locator's reference, if there is one: the block is read, and its load counted, before the offset is looked at
+unfoldable pub transactionOf : ℕ → List ℕ → ℕ → BlockStore → ℕ → List (List ℕ) → Transaction
+transactionOf k s used store offset [] = record { number = 0; share = noShare; store = store }
+transactionOf k s used store offset (r ∷ rows) = from (blockAt k s used (getD r 6 0))
+  where
+    from : BlockRead → Transaction
+    from (lookups.BlockRead.refused n) = refusedAnswer n store
+    from (lookups.BlockRead.got reference at n) =
+        record { number = 0; share = placed at (shareIn (bytesAt s at n) offset); store = counted store (unloaded (r ∷ [])) }
+
+-- `n` is the number of 1, 2 and 18
+unfoldable pub transactionAnswer : ℕ → ℕ → List ℕ → ℕ → BlockStore → ℕ → List (List ℕ) → Transaction
+transactionAnswer n k s used store offset chosen =
+    unless n (λ m. refusedAnswer m store) (transactionOf k s used store offset chosen)

@@ -1,0 +1,157 @@
+// A transaction by its locator (block_store.rs, get_transaction). The answer is a part of the image.
+ghost use mathlib.Core.Path.{_≡_};
+ghost use mathlib.Core.List.{[], _∷_};
+ghost use Prim.Native.Nat.{_+_, _*_, _≤_};
+ghost use lib.ListN.{length};
+ghost use Rattle.bincode.specs.Cursors.{next};
+ghost use Rattle.types.specs.Records.{statement};
+ghost use Rattle.rows.specs.Rows.{rowAt};
+ghost use Rattle.store.specs.Store.{indexed, callCheck};
+ghost use Rattle.lookup.specs.Lookups.{byReference};
+ghost use Rattle.transaction.specs.Transaction.{shareOf, shareIn, refusedAnswer, transactionOf, transactionAnswer};
+use bincode::Cursor;
+use rows::Place;
+use statements::StatementKind;
+use store::BlockStore;
+use types::TransactionLocator;
+use wal::WalPosition;
+
+// The place and the number of a Share's bytes. Zero where there is none.
+pub struct Share {
+    pub there: bool,
+    pub at: usize,
+    pub len: usize,
+}
+
+// A refusal's number, or 0 and the transaction, if there is one; and the store with the load counted.
+pub struct Transaction {
+    pub number: u8,
+    pub share: Share,
+    pub store: BlockStore,
+}
+
+const NO_SHARE: Share = Share {
+    there: false,
+    at: 0,
+    len: 0,
+};
+
+// The Share with this offset among a block's statements.
+pub fn share_in(block: &[u8], offset: u64) -> Share
+    ensures { λ r. ⌜ r ≡ shareIn (now (block .entry)) offset ⌝ }
+{
+    let d = blocks::decode_block(block, 0);
+    if !d.ok {
+        return NO_SHARE;
+    }
+    let b = d.block;
+    let mut c = b.statements;
+    let mut i = 0;
+    while i < offset {
+        let s = statements::next_statement(block, c);
+        if !s.ok {
+            return NO_SHARE;
+        }
+        c = s.rest;
+        i += 1;
+    }
+    share_at(block, c)
+}
+
+// The Share at a cursor's place.
+fn share_at(block: &[u8], c: Cursor) -> Share
+    ensures { λ r. ⌜ r ≡ shareOf (next statement (now (block .entry)) c) ⌝ }
+{
+    let s = statements::next_statement(block, c);
+    if !s.ok {
+        return NO_SHARE;
+    }
+    let t = s.statement;
+    let kind = t.kind;
+    match kind {
+        StatementKind::Share => Share {
+            there: true,
+            at: t.start,
+            len: t.count,
+        },
+        StatementKind::Vote => NO_SHARE,
+        StatementKind::VoteRange => NO_SHARE,
+    }
+}
+
+fn refuse(number: u8, store: BlockStore) -> Transaction
+    ensures { λ r. ⌜ r ≡ refusedAnswer number store ⌝ }
+{
+    Transaction {
+        number,
+        share: NO_SHARE,
+        store,
+    }
+}
+
+// The Share in the block of row i: the block is read, and its load counted, before the offset is
+// looked at.
+fn read_share(
+    k: u64,
+    image: &[u8],
+    used: u64,
+    store: BlockStore,
+    index: &[u64],
+    i: usize,
+    offset: u64,
+) -> Transaction
+    requires { ⌜ 8 * i + 8 ≤ length (now index) ⌝ }
+    ensures { λ r. ⌜ r ≡ transactionOf k (now (image .entry)) used store offset (rowAt (now (index .entry)) i ∷ []) ⌝ }
+{
+    let b = lookup::read_block(k, image, used, WalPosition(index[8 * i + 6]));
+    if b.number != 0 {
+        return refuse(b.number, store);
+    }
+    let at = b.at;
+    let end = at + b.len;
+    let found = share_in(&image[at..end], offset);
+    let counted = lookup::count_loads(store, lookup::not_loaded(index, i));
+    if !found.there {
+        return Transaction {
+            number: 0,
+            share: NO_SHARE,
+            store: counted,
+        };
+    }
+    Transaction {
+        number: 0,
+        share: Share {
+            there: true,
+            at: at + found.at,
+            len: found.len,
+        },
+        store: counted,
+    }
+}
+
+// The transaction that a locator names: only a Share is one.
+pub fn get_transaction(
+    k: u64,
+    image: &[u8],
+    used: u64,
+    store: BlockStore,
+    index: &[u64],
+    locator: TransactionLocator,
+) -> Transaction
+    ensures { λ r. ⌜ r ≡ transactionAnswer (callCheck k used (length (now (image .entry))) store (now (index .entry))) k (now (image .entry)) used store (locator .offset) (byReference (locator .block) (indexed store (now (index .entry)))) ⌝ }
+{
+    let number = store::check_call(k, image, used, store, index);
+    if number != 0 {
+        return refuse(number, store);
+    }
+    let reference = locator.block;
+    let found = rows::find(index, store.rows, index::key_of(reference));
+    match found {
+        Place::At(i) => read_share(k, image, used, store, index, i, locator.offset),
+        Place::Gap(_) => Transaction {
+            number: 0,
+            share: NO_SHARE,
+            store,
+        },
+    }
+}

@@ -8,10 +8,10 @@ torn ends. The model recovers every case, and must agree with the Rust.
 
 In tools/oracle, once build.sh has run:
 
-    python3 ../model/recovery_cases.py ask /tmp/asked
-    target/release/recovery /tmp/regions28
-    cargo test --offline --release --test regions16 -- /tmp/regions16 /tmp/asked
-    python3 ../model/recovery_cases.py write ../../crates/recovery_cases /tmp/regions28 /tmp/regions16
+    python3 ../model/recovery_cases.py ask ASKED
+    target/release/recovery REGIONS28
+    cargo test --offline --release --test regions16 -- REGIONS16 ASKED
+    python3 ../model/recovery_cases.py write ../../crates/recovery_cases REGIONS28 REGIONS16
 """
 import hashlib
 import struct

@@ -23,7 +23,8 @@ use Rattle.lookup.specs.declared.ReadBlock.{ReadBlock}
 use Rattle.lookup.specs.Lookups.{BlockRead, refused, got, blockAt, answerRow, Blocks, failed, all, also, next, readRows, authorOf, unloaded}
 use Rattle.lookup.specs.Lookups as lookups
 use Rattle.lookup.specs.Collecting.{between, chosen, readOf, collectedOf, Holds, answerPut}
-use Rattle.lookup.proofs.Keeping.{keep-yes, keep-no, between-rows, word-rowAt}
+use Rattle.store.proofs.Words.{word-rowAt}
+use Rattle.lookup.proofs.Keeping.{keep-yes, keep-no, between-rows}
 use Rattle.lookup.proofs.Reading.{NumberedBlock, refused-number, blockAt-numbered}
 
 -- ---- The rows that are chosen, by the first one

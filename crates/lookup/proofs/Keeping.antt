@@ -3,15 +3,14 @@ use mathlib.Core.Path.{_≡_, refl, sym, ap, _∙_}
 use mathlib.Core.Bool.{Bool, true, false}
 use mathlib.Core.List.{List, [], _∷_}
 use mathlib.Core.Logic.{⊎-elim}
-use Prim.Native.Nat.{ℕ, suc, _+_, _-_, _*_, _≤_, _<_}
+use Prim.Native.Nat.{ℕ, suc, _-_, _≤_}
 use native.Mathlib.Omega.{arith}
 use lib.Dec.{eqb}
-use lib.ListN.{length, take, drop, getD, length-drop, drop-of-length-le}
+use lib.ListN.{length, take, drop, length-drop, drop-of-length-le}
 use lib.Seq.{take-all}
 use Rattle.laws.specs.Pick.{pick}
 use Rattle.laws.proofs.Tests.{leb-cases}
-use Rattle.laws.proofs.Written.{getD-bytesAt}
-use Rattle.rows.specs.Rows.{rowsOf, rowAt}
+use Rattle.rows.specs.Rows.{rowsOf}
 use Rattle.rows.proofs.Rows.{length-rowsOf, rowsFrom, rowsFrom-none, drop-rowsOf, take-rowsOf}
 use Rattle.lookup.specs.Lookups.{keep, authorOf}
 use Rattle.lookup.specs.Collecting.{between, chosen}
@@ -90,8 +89,3 @@ between-part from to n w h = ap (drop from) (sym (take-rowsOf w to n h))
 pub length-between : (from to : ℕ) (w : List ℕ) → length (between from to w) ≡ to - from
 unfolding between
 length-between from to w = omega (arith, length-drop from (rowsOf to w), length-rowsOf to w)
-
--- word j of row i
-pub word-rowAt : (w : List ℕ) (i j : ℕ) → j < 8 → getD (rowAt w i) j 0 ≡ getD w (8 * i + j) 0
-unfolding rowAt
-word-rowAt w i j h = getD-bytesAt w (8 * i) 8 j h

@@ -178,7 +178,7 @@ pub fn block_exists_at_authority_round(
 
 // Whether one of the ascending rows has this round: the lowest would stand at the place of authority
 // 0 and digest 0.
-pub fn round_exists(index: &[u64], count: usize, round: RoundNumber) -> bool
+fn round_exists(index: &[u64], count: usize, round: RoundNumber) -> bool
     requires { ⌜ (8 * count ≤ length (now index)) × Ascending (rowsOf count (now index)) ⌝ }
     ensures { λ r. ⌜ r ≡ roundThere round (rowsOf count (now (index .entry))) ⌝ }
 {

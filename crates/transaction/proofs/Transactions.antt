@@ -21,7 +21,8 @@ use Rattle.lookup.specs.declared.ReadBlock.{ReadBlock}
 use Rattle.lookup.specs.Lookups.{blockAt, unloaded, counted, byReference}
 use Rattle.lookup.specs.Lookups as lookups
 use Rattle.lookup.specs.Collecting.{between, readOf}
-use Rattle.lookup.proofs.Keeping.{chosen-every, between-rows, length-between, word-rowAt}
+use Rattle.store.proofs.Words.{word-rowAt}
+use Rattle.lookup.proofs.Keeping.{chosen-every, between-rows, length-between}
 use Rattle.lookup.proofs.Reading.{blockAt-numbered}
 use Rattle.lookup.proofs.Collecting.{told-refused, one-unloaded}
 use Rattle.lookup.proofs.Queries.{at-reference}

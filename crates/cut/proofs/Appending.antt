@@ -66,13 +66,13 @@ module _ (k size : ℕ) (log : Log) (st : Store) (a : Append) (h : Holding size 
   answered (refused m) is = h
 
 module _ (k : ℕ) (least : 6 ≤ k) (most : k ≤ 28) (size : ℕ) where
-  same-answer : (log : Log) (st : Store) (a : Append) → Holding size log st
+  pub same-answer : (log : Log) (st : Store) (a : Append) → Holding size log st
       → answerOf k st a ≡ plainAnswer k size (log .end) (length (a .payload))
   unfolding answerOf
   same-answer log st a h =
       rw (h .used, h .room) (sym (plain-answer k least most (log .end) size (h .fits) (length (a .payload))))
 
-  held-next : (log : Log) (st : Store) (a : Append) → Holding size log st → Holding size (plainNext k size log a) (next k st a)
+  pub held-next : (log : Log) (st : Store) (a : Append) → Holding size log st → Holding size (plainNext k size log a) (next k st a)
   unfolding next plainNext
   held-next log st a h =
       rw (same-answer log st a h) (answered k size log st a h (plainAnswer k size (log .end) (length (a .payload))) refl)

@@ -1,3 +1,4 @@
 pub mod IndexRows
 pub mod Inserting
 pub mod Kept
+pub mod Numbers

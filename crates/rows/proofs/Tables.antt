@@ -31,7 +31,7 @@ unfolding flat
 length-flat [] h = refl
 length-flat (r ∷ rows) h = omega (arith, length-append r (flat rows), length-flat rows (h .1), h .0)
 
-rowsOf-flat : (rows : List (List ℕ)) (w : List ℕ) → Eights rows → rowsOf (length rows) (flat rows ++ w) ≡ rows
+pub rowsOf-flat : (rows : List (List ℕ)) (w : List ℕ) → Eights rows → rowsOf (length rows) (flat rows ++ w) ≡ rows
 unfolding rowsOf flat
 rowsOf-flat [] w h = refl
 rowsOf-flat (r ∷ rows) w h =
@@ -185,7 +185,7 @@ true-false : true ≡ false → ⊥
 true-false e = let z : _≡_ {A = ℕ} 0 1 = cc in omega arith
 
 -- the row with its key is replaced
-put-present : (row : List ℕ) (rows : List (List ℕ)) → Ascending rows → present (key row) rows ≡ true
+pub put-present : (row : List ℕ) (rows : List (List ℕ)) → Ascending rows → present (key row) rows ≡ true
     → putRow row rows ≡ set rows (below (key row) rows) row
 unfolding present
 put-present row [] a p = absurd (true-false (sym p))
@@ -210,7 +210,7 @@ put-present row (x ∷ rows) a p =
     (order-cases (compared (key x) (key row)))
 
 -- it joins before the rows with higher keys
-put-absent : (row : List ℕ) (rows : List (List ℕ)) → Ascending rows → present (key row) rows ≡ false
+pub put-absent : (row : List ℕ) (rows : List (List ℕ)) → Ascending rows → present (key row) rows ≡ false
     → putRow row rows ≡ take (below (key row) rows) rows ++ row ∷ drop (below (key row) rows) rows
 unfolding putRow below
 put-absent row [] a p = refl

@@ -1,0 +1,125 @@
+-- A refusal is not numbered 0, so that the number 0 tells an accepted insert. Assumes nothing.
+use mathlib.Core.Path.{_≡_, refl, sym, ap, _∙_, subst}
+use mathlib.Core.Bool.{Bool, true, false}
+use mathlib.Core.List.{List}
+use Prim.Native.Nat.{ℕ, zero, suc, _+_, _^_, _<_, min}
+use native.Mathlib.Omega.{arith}
+use lib.Dec.{leb, eqb}
+use lib.ListN.{length}
+use mathlib.Core.Logic.{⊎-elim}
+use Rattle.laws.proofs.Tests.{eqb-cases}
+use Rattle.laws.specs.Pick.{pick}
+use Rattle.laws.specs.Parse.{Res, bad, got, answer}
+use Rattle.types.specs.declared.BlockReference.{BlockReference}
+use Rattle.types.specs.Records.{BlockValue, block}
+use Rattle.commits.specs.Records.{OwnBlockValue, ownBlock}
+use Rattle.wal.specs.declared.writer.WalWriter.{WalWriter}
+use Rattle.wal.specs.Checks.{logCheck, unless}
+use Rattle.wal.specs.Append.{Placed, accepted, refused, startFor, within, place}
+use Rattle.rows.specs.declared.Upserted.{Upserted}
+use Rattle.rows.specs.declared.Upserted.the-variants.{Count, Full}
+use Rattle.rows.specs.Tables.{upsertCount}
+use Rattle.state.specs.Holding.{blockNumber}
+use Rattle.store.specs.declared.BlockStore.{BlockStore}
+use Rattle.rows.specs.Rows.{rowsOf}
+use Rattle.store.specs.Store.{callCheck}
+use Rattle.insert.specs.Insert.{Insertion, refuse, insert, Decoded, good, blockOf, loadedRow, indexing, insertion, insertedOf}
+use Rattle.insert.specs.Insert as definitions
+use Rattle.insert.proofs.Inserting.{block-refused, index-full, index-counted, call-refused, place-refused, undecoded, decoded}
+
+unless-numbered : {A : Type 0} (P : A → Type 0) (f : ℕ → A) (n : ℕ) (x : A) → ((m : ℕ) → 0 < m → P (f m)) → P x → P (unless n f x)
+unfolding unless
+unless-numbered P f zero x r h = h
+unless-numbered P f (suc n) x r h = r (suc n) (omega arith)
+
+either : {A : Type 0} (P : A → Type 0) (t : Bool) {x y : A} → P x → P y → P (pick t x y)
+unfolding pick
+either P true a b = a
+either P false a b = b
+
+abbrev PlaceNumbered : Placed → Type 0
+PlaceNumbered (accepted start) = Unit {0}
+PlaceNumbered (refused n) = 0 < n
+
+place-numbered : (k used size n : ℕ) → PlaceNumbered (place k used size n)
+unfolding place within
+place-numbered k used size n =
+    unless-numbered PlaceNumbered refused (logCheck k used size) _ (λ m h. h)
+    (either PlaceNumbered (leb (n + 16) (2 ^ k))
+    (either PlaceNumbered (leb (startFor k used n + (n + 16)) (min size (2 ^ 40))) tt (omega arith))
+    (omega arith))
+
+abbrev DecodedNumbered : Decoded → Type 0
+DecodedNumbered (definitions.Decoded.bad n) = 0 < n
+DecodedNumbered (good r) = Unit {0}
+
+answer-numbered : {A : Type 0} (n : ℕ) (f : A → BlockReference) → 0 < n → (x : Res A)
+    → DecodedNumbered (answer (definitions.Decoded.bad n) (λ v e. good (f v)) x)
+unfolding answer
+answer-numbered n f h bad = h
+answer-numbered n f h (got v e) = tt
+
+block-numbered : (tag : ℕ) (payload : List ℕ) → DecodedNumbered (blockOf tag payload)
+unfolding blockOf
+block-numbered tag payload =
+    either DecodedNumbered (eqb tag 1)
+    (answer-numbered 9 (λ (b : BlockValue). b .reference) (omega arith) (block payload 0))
+    (answer-numbered 10 (λ (o : OwnBlockValue). o .block .reference) (omega arith) (ownBlock payload 0))
+
+abbrev Numbered : Insertion → Type 0
+Numbered (refuse n) = 0 < n
+Numbered (insert start r n) = Unit {0}
+
+index-numbered : (s : BlockStore) (index : List ℕ) (start : ℕ) (r : BlockReference) → Numbered (indexing s index start r)
+index-numbered s index start r =
+    ⊎-elim
+    (λ z. stored (z .1) (upsertCount index (s .rows) (loadedRow r start)) refl)
+    (λ m. subst Numbered (sym (block-refused s index start r refl (m .1))) (omega (arith, m .1)))
+    (eqb-cases (blockNumber (s .«committee_size») (s .authority) (rowsOf (s .rows) index) r) 0)
+  where
+    stored : blockNumber (s .«committee_size») (s .authority) (rowsOf (s .rows) index) r ≡ 0 → (u : Upserted)
+        → u ≡ upsertCount index (s .rows) (loadedRow r start) → Numbered (indexing s index start r)
+    stored z (Count n) is = subst Numbered (sym (index-counted s index start r refl z refl is)) tt
+    stored z Full is = subst Numbered (sym (index-full s index start r refl z refl is)) (omega arith)
+
+insertion-numbered : (w : WalWriter) (size : ℕ) (s : BlockStore) (index : List ℕ) (tag : ℕ) (payload : List ℕ)
+    → Numbered (insertion w size s index tag payload)
+insertion-numbered w size s index tag payload =
+    ⊎-elim
+    (λ z. placed (z .1) (place (w .exponent) (w .used) size (length payload)) refl)
+    (λ m. subst Numbered (sym (call-refused w size s index tag payload refl (m .1))) (omega (arith, m .1)))
+    (eqb-cases (callCheck (w .exponent) (w .used) size s index) 0)
+  where
+    holding : callCheck (w .exponent) (w .used) size s index ≡ 0 → (start : ℕ)
+        → place (w .exponent) (w .used) size (length payload) ≡ accepted start
+        → (d : Decoded) → blockOf tag payload ≡ d → Numbered (insertion w size s index tag payload)
+    holding z start at (definitions.Decoded.bad n) is =
+        subst Numbered (sym (undecoded w size s index tag payload z at is)) (subst DecodedNumbered is (block-numbered tag payload))
+    holding z start at (good r) is =
+        subst Numbered (sym (decoded w size s index tag payload z at is)) (index-numbered s index start r)
+
+    placed : callCheck (w .exponent) (w .used) size s index ≡ 0 → (p : Placed)
+        → place (w .exponent) (w .used) size (length payload) ≡ p → Numbered (insertion w size s index tag payload)
+    placed z (accepted start) is = holding z start is (blockOf tag payload) refl
+    placed z (refused n) is =
+        subst Numbered (sym (place-refused w size s index tag payload z is))
+        (subst PlaceNumbered is (place-numbered (w .exponent) (w .used) size (length payload)))
+
+-- what an insert whose number is 0 has put, and where
+pub record Put (x : Insertion) : Type 0 where
+  pub start : ℕ
+  pub reference : BlockReference
+  pub rows : ℕ
+  pub is : x ≡ insert start reference rows
+
+pub zero-accepted : (w : WalWriter) (size : ℕ) (s : BlockStore) (index : List ℕ) (tag : ℕ) (payload : List ℕ) (n : ℕ)
+    → insertedOf w s n (insertion w size s index tag payload) .number ≡ 0 → Put (insertion w size s index tag payload)
+unfolding insertedOf
+zero-accepted w size s index tag payload n h = from (insertion w size s index tag payload) refl
+  where
+    from : (x : Insertion) → insertion w size s index tag payload ≡ x → Put (insertion w size s index tag payload)
+    from (refuse m) is =
+        let above : 0 < m = subst Numbered is (insertion-numbered w size s index tag payload) in
+        let none : m ≡ 0 = sym (ap (λ (x : Insertion). insertedOf w s n x .number) is) ∙ h in
+        absurd (omega arith)
+    from (insert start r m) is = record { start = start; reference = r; rows = m; is = is }

@@ -1,0 +1,4 @@
+pub mod Judging
+pub mod Rows
+pub mod Mirroring
+pub mod Reopened

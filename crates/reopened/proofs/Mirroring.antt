@@ -1,0 +1,187 @@
+-- What each call keeps: the store's rows and summary are those of the log's entries. Assumes nothing.
+use mathlib.Core.Path.{_≡_, refl, sym, ap, ap₂, _∙_, subst}
+use mathlib.Core.List.{List, [], _∷_, _++_, map, append-nil}
+use mathlib.Core.Logic.{_⊎_, ⊎-elim}
+use mathlib.Core.Option.{none}
+use Prim.Native.Nat.{ℕ, _<_}
+use native.Mathlib.Omega.{arith}
+use borrow.Author.Tests.{ne-eqb}
+use Rattle.laws.specs.Pick.{pick}
+use Rattle.laws.specs.Parse.{Res, bad, got, answer}
+use Rattle.laws.proofs.Tests.{eqb-cases}
+use Rattle.types.specs.declared.BlockReference.{BlockReference}
+use Rattle.types.specs.Records.{BlockValue, block}
+use Rattle.commits.specs.Records.{OwnBlockValue, CommitsValue, ownBlock, commit}
+use Rattle.wal.specs.Entries.{Entry}
+use Rattle.rows.specs.declared.Upserted.the-variants.{Count}
+use Rattle.rows.specs.Rows.{rowsOf}
+use Rattle.rows.specs.Tables.{upserted, upsertCount, putRow}
+use Rattle.rows.proofs.Lexicographic.{order-cases}
+use Rattle.index.specs.Keys.{AllBytes, Digested}
+use Rattle.index.specs.Summary.{summaryWith}
+use Rattle.index.specs.declared.StoreSummary.{StoreSummary}
+use Rattle.replay.specs.Items.{Item, isBlock, isPayload, isOwnBlock, isState, isCommit, Judged, refuse, item, judge, Read, blockIn}
+use Rattle.replay.specs.Rules.{Block, blockOf, index}
+use Rattle.replay.proofs.Sets.{order}
+use Rattle.replay.proofs.Applied.{insertRow, insertRow-below, insertRow-equal, insertRow-above, references, index-same, index-block}
+use Rattle.state.specs.Tables.{blockRow, summaryOf}
+use Rattle.state.specs.Holding.{AllDigested}
+use Rattle.state.proofs.Checks.{judge-block, judge-own}
+use Rattle.state.proofs.Digests.{block-digested, own-digested}
+use Rattle.state.proofs.Kept.{summary-kept}
+use Rattle.state.proofs.Rows.{length-indexRow, put-blockRow}
+use Rattle.state.proofs.Summaries.{summary-joined}
+use Rattle.recovery.specs.Answers.{indexRows}
+use Rattle.store.specs.declared.BlockStore.{BlockStore}
+use Rattle.store.specs.Store.{indexed}
+use Rattle.store.proofs.Checked.{Checked}
+use Rattle.insert.specs.Insert as insert
+use Rattle.insert.specs.Insert.{Decoded, good, loadedRow, storeWith}
+use Rattle.reopened.specs.Reopened.{unloadedRow, Mirrors}
+use Rattle.reopened.proofs.Judging.{readOf, read-refused, read-judged}
+use Rattle.reopened.proofs.Rows.{rows-upserted, put-unloaded, loaded-unloaded}
+
+-- ---- An entry that holds no block
+
+module _ (a : Entry) (one : a .tag ≡ 1 → ⊥) (three : a .tag ≡ 3 → ⊥) where
+  commit-no-block : (x : Res CommitsValue) {i : Item} → answer (refuse 12) (λ (c : CommitsValue) e. item (isCommit c)) x ≡ item i → blockIn i ≡ none
+  unfolding answer blockIn
+  commit-no-block bad h = let z : _≡_ {A = ℕ} 0 1 = cc in absurd (omega arith)
+  commit-no-block (got c e) {i} h = let is : isCommit c ≡ i = cc in ap blockIn (sym is)
+
+  item-no-block : {i : Item} → judge a ≡ item i → blockIn i ≡ none
+  unfolding judge pick blockIn
+  item-no-block {i} h =
+      ⊎-elim
+      (λ two.
+      let is : item isPayload ≡ item i = rw (ne-eqb (a .tag) 1 one, two .0) at h in
+      let same : isPayload ≡ i = cc in
+      ap blockIn (sym same))
+      (λ not-two.
+      ⊎-elim
+      (λ four.
+      let is : item isState ≡ item i = rw (ne-eqb (a .tag) 1 one, not-two .0, ne-eqb (a .tag) 3 three, four .0) at h in
+      let same : isState ≡ i = cc in
+      ap blockIn (sym same))
+      (λ not-four.
+      ⊎-elim
+      (λ five.
+      commit-no-block (commit (a .payload) 0)
+      (rw (ne-eqb (a .tag) 1 one, not-two .0, ne-eqb (a .tag) 3 three, not-four .0, five .0) at h))
+      (λ not-five.
+      let is : refuse 8 ≡ item i =
+      rw (ne-eqb (a .tag) 1 one, not-two .0, ne-eqb (a .tag) 3 three, not-four .0, not-five .0) at h in
+      let z : _≡_ {A = ℕ} 0 1 = cc in
+      absurd (omega arith))
+      (eqb-cases (a .tag) 5))
+      (eqb-cases (a .tag) 4))
+      (eqb-cases (a .tag) 2)
+
+  held-none : {i : Item} → judge a ≡ item i → blockOf (record { entry = a; item = i }) ≡ []
+  unfolding blockOf
+  held-none h = rw (item-no-block h, blockOf)
+
+  -- index and summary stay as they were
+  pub no-block-read : (own : ℕ) (l : List Read) → (index (l ++ readOf a) ≡ index l) × (summaryOf own (l ++ readOf a) ≡ summaryOf own l)
+  no-block-read own l = from (judge a) refl
+    where
+      from : (j : Judged) → judge a ≡ j → (index (l ++ readOf a) ≡ index l) × (summaryOf own (l ++ readOf a) ≡ summaryOf own l)
+      from (refuse n) e =
+          let same : l ++ readOf a ≡ l = ap (λ (m : List Read). l ++ m) (read-refused a e) ∙ append-nil l in
+          (ap index same, ap (summaryOf own) same)
+      from (item i) e =
+          let x : Read = record { entry = a; item = i } in
+          let same : l ++ readOf a ≡ l ++ (x ∷ []) = ap (λ (m : List Read). l ++ m) (read-judged a e) in
+          (ap index same ∙ index-same l x (held-none e), ap (summaryOf own) same ∙ summary-kept l x (held-none e) own)
+
+-- ---- An entry that holds a block
+
+-- a block that insert decodes is one that recovery reads
+pub record Holds (a : Entry) (r : BlockReference) : Type 0 where
+  pub item : Item
+  pub is : judge a ≡ Judged.item item
+  pub block : blockOf (record { entry = a; item = item }) ≡ record { reference = r; position = a .start } ∷ []
+  pub digested : Digested r
+
+module _ (start : ℕ) (payload : List ℕ) (all : AllBytes payload) {r : BlockReference} where
+  holds-block : insert.blockOf 1 payload ≡ good r → Holds (record { start = start; tag = 1; payload = payload }) r
+  unfolding insert.blockOf pick answer blockOf blockIn
+  holds-block h = from (block payload 0) refl
+    where
+      from : (x : Res BlockValue) → block payload 0 ≡ x → Holds (record { start = start; tag = 1; payload = payload }) r
+      from bad e =
+          let both : Decoded.bad 9 ≡ good r = rw e at h in
+          let z : _≡_ {A = ℕ} 0 1 = cc in
+          absurd (omega arith)
+      from (got b f) e =
+          let both : good (b .reference) ≡ good r = rw e at h in
+          let same : b .reference ≡ r = cc in
+          record {
+            item = isBlock (b .reference);
+            is = judge-block start payload e;
+            block = ap (λ (r : BlockReference). record { reference = r; position = start } ∷ []) same;
+            digested = subst Digested same (block-digested payload all 0 e);
+          }
+
+  holds-own : insert.blockOf 3 payload ≡ good r → Holds (record { start = start; tag = 3; payload = payload }) r
+  unfolding insert.blockOf pick answer blockOf blockIn
+  holds-own h = from (ownBlock payload 0) refl
+    where
+      from : (x : Res OwnBlockValue) → ownBlock payload 0 ≡ x → Holds (record { start = start; tag = 3; payload = payload }) r
+      from bad e =
+          let both : Decoded.bad 10 ≡ good r = rw e at h in
+          let z : _≡_ {A = ℕ} 0 1 = cc in
+          absurd (omega arith)
+      from (got o f) e =
+          let both : good (o .block .reference) ≡ good r = rw e at h in
+          let same : o .block .reference ≡ r = cc in
+          record {
+            item = isOwnBlock (o .nextEntry) (o .block .reference);
+            is = judge-own start payload e;
+            block = ap (λ (r : BlockReference). record { reference = r; position = start } ∷ []) same;
+            digested = subst Digested same (own-digested payload all 0 e);
+          }
+
+  pub insert-holds : (tag : ℕ) → (tag ≡ 1) ⊎ (tag ≡ 3) → insert.blockOf tag payload ≡ good r
+      → Holds (record { start = start; tag = tag; payload = payload }) r
+  insert-holds tag which h =
+      ⊎-elim
+      (λ (one : tag ≡ 1).
+      subst (λ (t : ℕ). Holds (record { start = start; tag = t; payload = payload }) r) (sym one)
+      (holds-block (subst (λ (t : ℕ). insert.blockOf t payload ≡ good r) one h)))
+      (λ (three : tag ≡ 3).
+      subst (λ (t : ℕ). Holds (record { start = start; tag = t; payload = payload }) r) (sym three)
+      (holds-own (subst (λ (t : ℕ). insert.blockOf t payload ≡ good r) three h)))
+      which
+
+-- its digest joins those of the index
+pub digested-inserted : (b : Block) (bs : List Block) → Digested (b .reference) → AllDigested (references bs) → AllDigested (references (insertRow b bs))
+unfolding insertRow
+digested-inserted b [] d all = (d, tt)
+digested-inserted b (x ∷ bs) d all =
+    ⊎-elim
+    (λ l. subst (λ (rows : List Block). AllDigested (references rows)) (sym (insertRow-below b x bs l)) (d, all))
+    (⊎-elim
+    (λ e. subst (λ (rows : List Block). AllDigested (references rows)) (sym (insertRow-equal b x bs e)) (d, all .1))
+    (λ g.
+    subst (λ (rows : List Block). AllDigested (references rows)) (sym (insertRow-above b x bs g)) (all .0, digested-inserted b bs d (all .1))))
+    (order-cases (order (b .reference) (x .reference)))
+
+-- the row of a block joins the store's as it joins the index of the log
+module _ (own : ℕ) (l : List Read) (s : BlockStore) (words : List ℕ) (h : Mirrors own l s words) (digested : AllDigested (references (index l))) (ok : Checked s words) (own-is : s .authority ≡ own) (a : Entry) {r : BlockReference} (holds : Holds a r) (small : r .authority < s .«committee_size») {n : ℕ} (counted : upsertCount words (s .rows) (loadedRow r (a .start)) ≡ Count n) where
+  pub mirrors-block : Mirrors own (l ++ (record { entry = a; item = holds .item } ∷ [])) (storeWith s r n) (upserted words (s .rows) (loadedRow r (a .start)))
+  unfolding storeWith indexed indexRows loadedRow
+  mirrors-block =
+      let x : Read = record { entry = a; item = holds .item } in
+      let b : Block = record { reference = r; position = a .start } in
+      record {
+        rows =
+            ap (map unloadedRow) (rows-upserted words (s .rows) (ok .fits) (ok .ascends) (loadedRow r (a .start)) (length-indexRow r (a .start) 1) counted)
+            ∙ put-unloaded (loadedRow r (a .start)) (rowsOf (s .rows) words)
+            ∙ ap₂ (λ (row : List ℕ) (rows : List (List ℕ)). putRow row rows) (loaded-unloaded r (a .start)) (h .rows)
+            ∙ put-blockRow b (index l) (holds .digested) digested
+            ∙ ap (map blockRow) (sym (index-block l x b (holds .block)));
+        summary =
+            ap₂ (λ (o : ℕ) (m : StoreSummary). summaryWith o r m) own-is (h .summary)
+            ∙ sym (summary-joined own l x b (holds .block) (omega (arith, ok .most)));
+      }

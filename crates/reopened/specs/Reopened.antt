@@ -1,0 +1,64 @@
+-- A store and its log say the same: whatever calls made them, the index that recovery of the log gives is the store's, loaded flags aside.
+-- Document 01: "Insert (a block's bytes .. logged and indexed)"; "Index: reference to latest position, all unloaded".
+use mathlib.Core.Path.{_≡_}
+use mathlib.Core.Logic.{_⊎_}
+use mathlib.Core.List.{List, [], _∷_, _++_, map}
+use Prim.Native.Nat.{ℕ, _^_, _≤_, _<_}
+use lib.ListN.{set}
+use Rattle.index.specs.Keys.{AllBytes}
+use Rattle.replay.specs.Items.{Read}
+use Rattle.replay.specs.Recovery.{Lent, recover, recovered}
+use Rattle.wal.specs.Walk.{Stop}
+use Rattle.state.specs.Tables.{lentOf, emptyReplay, summaryOf}
+use Rattle.recovery.specs.declared.Recovered.{Recovered}
+use Rattle.recovery.specs.Answers.{Answers, indexRows}
+use Rattle.store.specs.declared.BlockStore.{BlockStore}
+use Rattle.store.specs.Store.{indexed, openedOf, cleanupIndex}
+use Rattle.lookup.specs.Lookups.{counted}
+use Rattle.insert.specs.declared.Inserted.{Inserted}
+use Rattle.insert.specs.Insert.{Inserts}
+use Rattle.cut.specs.PlainLog.{Append}
+use Rattle.cut.specs.Cut.{Store, next}
+
+-- The stores that the calls make, on a log that began empty in an image of whatever bytes: what was appended to it, the log, the store and
+-- its index. A refused call changes nothing, so that it makes no other store.
+pub data Made (k size own : ℕ) (image : List ℕ) : List Append → Store → BlockStore → List ℕ → Type 0 where
+  -- no block yet, in index rows of whatever words
+  new : (index : List ℕ) → Made k size own image [] (record { used = 0; image = image }) (openedOf size own emptyReplay) index
+  -- an append of something else than a block: "every 32-bit tag" but those of an insert
+  appends : {done : List Append} {log : Store} {s : BlockStore} {index : List ℕ} → Made k size own image done log s index
+      → (a : Append) → a .tag < 2 ^ 32 → (a .tag ≡ 1 → ⊥) → (a .tag ≡ 3 → ⊥)
+      → Made k size own image (done ++ (a ∷ [])) (next k log a) s index
+  -- an accepted insert
+  inserts : {done : List Append} {log : Store} {s : BlockStore} {index : List ℕ} → Made k size own image done log s index
+      → (tag : ℕ) (payload : List ℕ) → (tag ≡ 1) ⊎ (tag ≡ 3) → AllBytes payload
+      → (r : Inserted) (image′ index′ : List ℕ)
+      → Inserts (record { exponent = k; used = log .used }) s tag payload (log .image) index r image′ index′ → r .number ≡ 0
+      → Made k size own image (done ++ (record { tag = tag; payload = payload } ∷ [])) (record { used = r .writer .used; image = image′ }) (r .store) index′
+  -- cleanup changes flags, a lookup counts loads
+  cleans : {done : List Append} {log : Store} {s : BlockStore} {index : List ℕ} → Made k size own image done log s index
+      → (t : ℕ) → Made k size own image done log s (cleanupIndex k (log .image) (log .used) s index t)
+  looks : {done : List Append} {log : Store} {s : BlockStore} {index : List ℕ} → Made k size own image done log s index
+      → (n : ℕ) → Made k size own image done log (counted s n) index
+  -- the node starts anew, with what recovery gives
+  opens : {done : List Append} {log : Store} {s : BlockStore} {index : List ℕ} → Made k size own image done log s index
+      → (p u c i p′ u′ c′ i′ : List ℕ) (r : Recovered) (word : Stop) (e : ℕ) (l : List Read)
+      → recover k (log .image) (log .used) size own (lentOf p u c i) ≡ recovered word e l
+      → Answers (log .used) own (recovered word e l) r p u c i p′ u′ c′ i′
+      → Made k size own image done log (openedOf size own (r .replay)) i′
+
+-- a row, its loaded flag aside
+unfoldable pub unloadedRow : List ℕ → List ℕ
+unloadedRow r = set r 7 0
+
+-- the store's references, positions and summary are those of the entries l
+pub record Mirrors (own : ℕ) (l : List Read) (s : BlockStore) (index : List ℕ) : Type 0 where
+  pub rows : map unloadedRow (indexed s index) ≡ indexRows l
+  pub summary : s .summary ≡ summaryOf own l
+
+-- whatever tables are lent to the recovery that is not refused
+abbrev pub Reopened : Type 0
+Reopened =
+    (k : ℕ) → 6 ≤ k → k ≤ 28 → (size own : ℕ) (image : List ℕ) (done : List Append) (log : Store) (s : BlockStore) (index : List ℕ)
+    → Made k size own image done log s index → (lent : Lent) (word : Stop) (e : ℕ) (l : List Read)
+    → recover k (log .image) (log .used) size own lent ≡ recovered word e l → Mirrors own l s index

@@ -5,3 +5,4 @@ pub mod Rounds
 pub mod Collecting
 pub mod Answering
 pub mod Queries
+pub mod Blocks

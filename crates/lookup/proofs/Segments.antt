@@ -163,7 +163,7 @@ module _ (round : ℕ) where
       (sym (first-same x round (take 5 r) (0 ∷ 0 ∷ 0 ∷ 0 ∷ 0 ∷ []) (omega (arith, f .1))) ∙ h))
       (leb-cases (suc round) x)
 
-  lower-next : (r : List ℕ) (rows : List (List ℕ)) → length r ≡ 8 → getD r 0 0 < round
+  pub lower-next : (r : List ℕ) (rows : List (List ℕ)) → length r ≡ 8 → getD r 0 0 < round
       → below (roundKey round) (r ∷ rows) ≡ suc (below (roundKey round) rows)
   unfolding below choose
   lower-next r rows e h = rw (row-below r e h)
@@ -177,7 +177,7 @@ module _ (round : ℕ) where
       (⊎-elim (λ q. rw q) (λ g. rw g))
       (order-cases (compared (key r) (roundKey round)))
 
-  lower-none : (p : ℕ) (rows : List (List ℕ)) → Eights rows → round ≤ p → AtLeast p rows → below (roundKey round) rows ≡ 0
+  pub lower-none : (p : ℕ) (rows : List (List ℕ)) → Eights rows → round ≤ p → AtLeast p rows → below (roundKey round) rows ≡ 0
   unfolding below
   lower-none p [] e h l = refl
   lower-none p (r ∷ rows) e h l = lower-skip r rows (e .0) (omega (arith, l .0)) ∙ lower-none p rows (e .1) h (l .1)

@@ -268,7 +268,7 @@ pub fn count_loads(store: BlockStore, n: u64) -> BlockStore
 }
 
 // How many rows have a key below k.
-fn lower_bound(index: &[u64], count: usize, k: [u64; 6]) -> usize
+pub fn lower_bound(index: &[u64], count: usize, k: [u64; 6]) -> usize
     requires { ⌜ (8 * count ≤ length (now index)) × Ascending (rowsOf count (now index)) ⌝ }
     ensures { λ r. ⌜ r ≡ below k (rowsOf count (now (index .entry))) ⌝ }
 {

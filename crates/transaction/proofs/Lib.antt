@@ -1,4 +1,3 @@
 pub mod Steps
 pub mod Shares
-pub mod Blocks
 pub mod Transactions

@@ -30,7 +30,7 @@ use Rattle.transaction.specs.declared.Share.{Share}
 use Rattle.transaction.specs.declared.Transaction.{Transaction}
 use Rattle.transaction.specs.Transaction.{noShare, shareIn, placed, refusedAnswer, transactionOf, transactionAnswer}
 use Rattle.transaction.proofs.Shares.{share-within}
-use Rattle.transaction.proofs.Blocks.{block-got, block-within}
+use Rattle.lookup.proofs.Blocks.{block-got, block-within}
 
 -- ---- A Share behind the block's place
 

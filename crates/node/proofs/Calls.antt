@@ -6,7 +6,7 @@ use Rattle.text.specs.Clipped.{clipped}
 use Rattle.replay.specs.Recovery.{Recovery}
 use Rattle.recovery.specs.declared.Recovered.{Recovered}
 use Rattle.recovery.specs.Answers.{Answers}
-use Rattle.node.specs.Words.{recoveredWords}
+use Rattle.node_words.specs.Words.{recoveredWords}
 use Rattle.node.specs.Calls.{Recovers}
 
 -- the words v of an answer f are put, which is the answer g of the definition

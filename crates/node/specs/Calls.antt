@@ -7,8 +7,11 @@ use Rattle.text.specs.Clipped.{clipped}
 use Rattle.wal.specs.Answers.{appendAnswer, appendImage, walkAnswer}
 use Rattle.wal.specs.declared.writer.WalWriter.{WalWriter}
 use Rattle.replay.specs.Recovery.{Recovery}
+use Rattle.insert.specs.declared.Inserted.{Inserted}
+use Rattle.lookup.specs.declared.Looked.{Looked}
 use Rattle.recovery.specs.Answers.{recoveredOf, answerTable, pendingRows, unprocessedRows, committedRows, indexRows}
-use Rattle.node.specs.Words.{recoveredWords, appendNumber, appendWords, walkNumber, walkWords}
+use Rattle.node_words.specs.Words.{recoveredWords}
+use Rattle.node_answers.specs.Answers.{appendNumber, appendWords, walkNumber, walkWords, Logs, Looks}
 
 -- The number, as many of the answer's words as fit into a, and each word of the tables: p, u, c, i and a are those lent, p′, u′, c′,
 -- i′ and a′ those given back.
@@ -30,3 +33,16 @@ pub record Appends (w : WalWriter) (tag : ℕ) (payload : List ℕ) (r : ℕ) (s
 pub record Walks (k : ℕ) (s : List ℕ) (used r : ℕ) (a a′ : List ℕ) : Type 0 where
   pub number : r ≡ walkNumber (walkAnswer k s used)
   pub words : a′ ≡ clipped a 0 (walkWords (walkAnswer k s used))
+
+-- A call of the crate insert, whose contract says what its answer is: what it answers is put. w and a are the words lent for the store
+-- and for the answer, w′ and a′ what they hold after the call.
+pub record Inserting (call : Inserted → Type 0) (n : ℕ) (w a w′ a′ : List ℕ) : Type 0 where
+  pub answer : Inserted
+  pub answers : call answer
+  pub gives : Logs answer n w a w′ a′
+
+-- The same of a call of the crate lookup.
+pub record Looking (call : Looked → Type 0) (n : ℕ) (w a w′ a′ : List ℕ) : Type 0 where
+  pub answer : Looked
+  pub answers : call answer
+  pub gives : Looks answer n w a w′ a′

@@ -154,10 +154,17 @@ pub mod metrics {
 }
 
 pub mod corpus;
+#[cfg(feature = "differential")]
+pub mod differential;
 pub mod recovery;
+pub mod store;
 
 /// The test build, in which regions have 2^16 bytes, as a program.
 #[cfg(test)]
 fn main() {
+    #[cfg(feature = "differential")]
+    if std::env::args().nth(1).as_deref() == Some("differential") {
+        return differential::main();
+    }
     recovery::main();
 }

@@ -24,7 +24,7 @@ use std::path::{Path, PathBuf};
 use std::sync::Arc;
 
 /// The exponent of the region size in this build.
-const K: u64 = if cfg!(test) { 16 } else { 28 };
+pub(crate) const K: u64 = if cfg!(test) { 16 } else { 28 };
 
 const FULL: u64 = 0;
 const CUTS: u64 = 1;
@@ -33,36 +33,36 @@ const LINE: u64 = 2;
 /// The words lent for each table, eight to a row; some belong to no row.
 const LENT: [u64; 4] = [8 * 40 + 3, 8 * 40, 8 * 40 + 7, 8 * 40 + 1];
 
-fn number(p: WalPosition) -> u64 {
+pub(crate) fn number(p: WalPosition) -> u64 {
     p.to_string().parse().unwrap()
 }
 
-fn position(n: u64) -> WalPosition {
+pub(crate) fn position(n: u64) -> WalPosition {
     bincode::deserialize(&n.to_le_bytes()).unwrap()
 }
 
 // ---- Recovery
 
-type Row = [u64; 8];
+pub(crate) type Row = [u64; 8];
 
 /// Whether there are such bytes, where they begin in the log, and their length.
-type Place = [u64; 3];
+pub(crate) type Place = [u64; 3];
 
 /// What was recovered, in the rows and words of docs/LAYOUTS.md.
-struct Answer {
-    tables: [Vec<Row>; 4],
-    places: [Place; 3],
-    leader: Option<BlockReference>,
-    own: Option<BlockReference>,
-    highest: u64,
-    seen: Vec<u64>,
+pub(crate) struct Answer {
+    pub(crate) tables: [Vec<Row>; 4],
+    pub(crate) places: [Place; 3],
+    pub(crate) leader: Option<BlockReference>,
+    pub(crate) own: Option<BlockReference>,
+    pub(crate) highest: u64,
+    pub(crate) seen: Vec<u64>,
 }
 
-fn digest(r: &BlockReference) -> [u8; 32] {
+pub(crate) fn digest(r: &BlockReference) -> [u8; 32] {
     bincode::serialize(r).unwrap()[24..].try_into().unwrap()
 }
 
-fn row(r: &BlockReference, last: [u64; 2]) -> Row {
+pub(crate) fn row(r: &BlockReference, last: [u64; 2]) -> Row {
     let d = digest(r);
     let word = |i: usize| u64::from_be_bytes(d[8 * i..8 * i + 8].try_into().unwrap());
     [r.round, r.authority, word(0), word(1), word(2), word(3), last[0], last[1]]
@@ -73,16 +73,16 @@ fn pending_row(p: u64, r: &BlockReference) -> Row {
     [p, 1, k[0], k[1], k[2], k[3], k[4], k[5]]
 }
 
-fn sorted(mut rows: Vec<Row>) -> Vec<Row> {
+pub(crate) fn sorted(mut rows: Vec<Row>) -> Vec<Row> {
     rows.sort();
     rows
 }
 
 /// The entries of a log, as the Rust's iterator gives them: start, tag and payload in the mapped file.
-struct Entries(Vec<(u64, Tag, Bytes)>);
+pub(crate) struct Entries(pub(crate) Vec<(u64, Tag, Bytes)>);
 
 impl Entries {
-    fn of(reader: &WalReader, writer: &WalWriter) -> Self {
+    pub(crate) fn of(reader: &WalReader, writer: &WalWriter) -> Self {
         Self(reader.iter_until(writer).map(|(p, (tag, data))| (number(p), tag, data)).collect())
     }
 
@@ -120,8 +120,12 @@ fn recover(path: &Path, own: u64, size: usize) -> Answer {
     let (writer, reader) = walf(open_file_for_wal(path).unwrap()).unwrap();
     let reader = Arc::new(reader);
     let committee = Committee::new_test(vec![1; size]);
-    let r: RecoveredState = BlockStore::open(own, reader.clone(), &writer, Arc::new(Metrics::default()), &committee);
-    let entries = Entries::of(&reader, &writer);
+    let r = BlockStore::open(own, reader.clone(), &writer, Arc::new(Metrics::default()), &committee);
+    answer_of(&r, &Entries::of(&reader, &writer), size)
+}
+
+/// What was recovered from a log of these entries.
+pub(crate) fn answer_of(r: &RecoveredState, entries: &Entries, size: usize) -> Answer {
     let pending = r.pending.iter().map(|(p, statement)| match statement {
         MetaStatement::Include(reference) => pending_row(number(*p), reference),
         MetaStatement::Payload(_) => [number(*p), 2, entries.at(number(*p)).2.len() as u64, 0, 0, 0, 0, 0],
@@ -146,7 +150,7 @@ fn recover(path: &Path, own: u64, size: usize) -> Answer {
                 assert_eq!(place[2], s.len() as u64);
                 place
             }),
-            r.committed_state.as_ref().map_or([0; 3], |s| committed_place(&entries, s)),
+            r.committed_state.as_ref().map_or([0; 3], |s| committed_place(entries, s)),
         ],
         leader: r.last_committed_leader,
         own: r.block_store.last_own_block_ref(),
@@ -231,7 +235,7 @@ impl Answer {
 // ---- Writing logs
 
 /// A file that is not there yet.
-fn temporary(name: &str) -> PathBuf {
+pub(crate) fn temporary(name: &str) -> PathBuf {
     let path = std::env::temp_dir().join(format!("recovery-oracle-{}-{name}", std::process::id()));
     let _ = std::fs::remove_file(&path);
     path
@@ -286,7 +290,7 @@ impl Log {
 }
 
 /// A block whose digest begins with these bytes: the test build computes none, and the order of digests is to be seen.
-fn block_with(authority: u64, round: u64, begins: &[u8], includes: Vec<BlockReference>, statements: Vec<BaseStatement>) -> Data<StatementBlock> {
+pub(crate) fn block_with(authority: u64, round: u64, begins: &[u8], includes: Vec<BlockReference>, statements: Vec<BaseStatement>) -> Data<StatementBlock> {
     let b = StatementBlock::new(authority, round, includes, statements, 5 + round as u128, false, SignatureBytes::default());
     let mut bytes = bincode::serialize(&b).unwrap();
     for i in 0..32u64 {
@@ -304,16 +308,16 @@ fn reference(authority: u64, round: u64) -> BlockReference {
     *block(authority, round).reference()
 }
 
-fn share(text: &str) -> BaseStatement {
+pub(crate) fn share(text: &str) -> BaseStatement {
     BaseStatement::Share(Transaction::new(text.as_bytes().to_vec()))
 }
 
-fn commit(leader: BlockReference, sub_dag: Vec<BlockReference>) -> CommitData {
+pub(crate) fn commit(leader: BlockReference, sub_dag: Vec<BlockReference>) -> CommitData {
     CommitData { leader, sub_dag }
 }
 
 /// Every kind of statement.
-fn statements() -> Vec<BaseStatement> {
+pub(crate) fn statements() -> Vec<BaseStatement> {
     let locator = |n| TransactionLocator::new(reference(1, 1), n);
     vec![
         share("cards"),

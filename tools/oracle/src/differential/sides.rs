@@ -1,0 +1,291 @@
+//! A log written by both sides, and the stores that both open from it. Each step compares what the two answer.
+use super::panics::{caught, Panic};
+use super::tally::Tally;
+use crate::block_store::{inside, BlockStore, BlockWriter, OwnBlockData};
+use crate::committee::Committee;
+use crate::data::Data;
+use crate::metrics::Metrics;
+use crate::recovery::{answer_of, digest, number, position, Answer, Entries, Place, Row, K};
+use crate::types::{BlockReference, StatementBlock};
+use crate::wal::{open_file_for_wal, walf, WalPosition, WalReader, WalWriter};
+use kadzhomir::{Log, Recovered, RefusedAt, Stop};
+use std::fs::File;
+use std::os::unix::fs::FileExt;
+use std::path::PathBuf;
+use std::sync::Arc;
+
+pub type Reference = kadzhomir::BlockReference;
+
+pub const REGION: u64 = 1 << K;
+
+/// A reference of the Rust as one of the port.
+pub fn reference(r: &BlockReference) -> Reference {
+    Reference { authority: r.authority, round: r.round, digest: digest(r) }
+}
+
+/// The file of this process: in memory where the system has such a folder.
+fn path() -> PathBuf {
+    let memory = PathBuf::from("/dev/shm");
+    let folder = if memory.is_dir() { memory } else { std::env::temp_dir() };
+    folder.join(format!("differential-{}", std::process::id()))
+}
+
+/// Removes the file.
+pub fn clean() {
+    let _ = std::fs::remove_file(path());
+}
+
+/// The two logs.
+pub struct Logs {
+    pub writer: WalWriter,
+    pub reader: Arc<WalReader>,
+    pub file: File,
+    pub port: Log<Vec<u8>>,
+    /// What both writers took: position, tag and payload. None where the log did not begin empty.
+    written: Option<Vec<(u64, u32, Vec<u8>)>>,
+}
+
+impl Logs {
+    /// Two empty logs. The port's image holds other bytes at first, which its padding must cover.
+    pub fn new(image: usize) -> Self {
+        Self::of(&[], vec![0xa5; image])
+    }
+
+    /// Two logs that begin with these bytes, the port's in an image that has them already or takes them.
+    pub fn of(bytes: &[u8], mut image: Vec<u8>) -> Self {
+        image[..bytes.len()].copy_from_slice(bytes);
+        clean();
+        let file = open_file_for_wal(path()).unwrap();
+        file.write_all_at(bytes, 0).unwrap();
+        let written = bytes.is_empty().then(Vec::new);
+        Self { written, ..Self::resume(file, Log::new(K, image, bytes.len() as u64)) }
+    }
+
+    /// The Rust's side of a file, from its end on.
+    pub fn resume(file: File, port: Log<Vec<u8>>) -> Self {
+        let (writer, reader) = walf(file.try_clone().unwrap()).unwrap();
+        Self { writer, reader: Arc::new(reader), file, port, written: None }
+    }
+
+    /// Zeros behind the file, up to the next region but one: the mapped reader may then look anywhere in its region. The
+    /// writer keeps its end.
+    pub fn pad(&self) {
+        self.file.set_len((self.port.used() / REGION + 2) * REGION).unwrap();
+    }
+
+    /// Changes a byte on both sides.
+    pub fn damage(&mut self, at: usize, byte: u8) {
+        self.port.image_mut()[at] = byte;
+        self.file.write_all_at(&[byte], at as u64).unwrap();
+    }
+
+    /// Appends to both. None where the Rust panics and the port refuses.
+    pub fn append(&mut self, t: &mut Tally, tag: u32, payload: &[u8]) -> Option<u64> {
+        let before = self.port.used();
+        let rust = caught(|| number(self.writer.write(tag, payload).unwrap()));
+        let port = self.port.append(tag, payload);
+        match (rust, port) {
+            (Ok(rust), Ok(port)) => {
+                t.same("append: position", rust, port.0);
+                self.note(rust, tag, payload);
+                Some(rust)
+            }
+            (Err(panic), Err(refusal)) => {
+                check_refusal(t, "append", &panic, refusal.number());
+                t.holds("append: refused, unchanged", self.port.used() == before, &self.port.used());
+                None
+            }
+            (rust, port) => t.differ("append", &format!("the Rust: {:?}\nthe port: {port:?}", rust.map_err(|p| p.0))),
+        }
+    }
+
+    fn note(&mut self, position: u64, tag: u32, payload: &[u8]) {
+        if let Some(written) = &mut self.written {
+            written.push((position, tag, payload.to_vec()));
+        }
+    }
+
+    /// The bytes of both logs from a place on, and their length.
+    pub fn same_bytes(&self, t: &mut Tally, from: u64) {
+        let used = self.port.used();
+        let mut bytes = vec![0; (used - from) as usize];
+        self.file.read_exact_at(&mut bytes, from).unwrap();
+        t.same("log: bytes", &bytes[..], &self.port.image()[from as usize..used as usize]);
+    }
+
+    pub fn same_length(&self, t: &mut Tally) {
+        t.same("log: length", self.file.metadata().unwrap().len(), self.port.used());
+    }
+
+    /// The Rust's iterator against the port's walk, step by step and whole.
+    pub fn same_entries(&self, t: &mut Tally) {
+        let rust = caught(|| Entries::of(&self.reader, &self.writer));
+        let mut walk = self.port.entries();
+        let port: Result<Vec<_>, RefusedAt> = walk.by_ref().collect();
+        match (rust, port) {
+            (Ok(rust), Ok(port)) => {
+                let image = self.port.image();
+                let rust = rust.0.iter().map(|(p, tag, data)| (*p, *tag, crc32fast::hash(data), &data[..]));
+                let port = port.iter().map(|e| (e.position.0, e.tag, e.checksum, &image[e.payload()]));
+                t.same("walk: entries", rust.collect::<Vec<_>>(), port.collect());
+                self.same_whole_walk(t, walk.end().0, walk.stop());
+            }
+            // The port goes past such bytes. What it lists must be what the Rust's writer wrote.
+            (Err(panic), port) if panic.left_over() => match (&self.written, port) {
+                (Some(written), Ok(port)) => {
+                    let port = port.iter().map(|e| (e.position.0, e.tag, self.port.image()[e.payload()].to_vec()));
+                    t.same("walk: entries around bytes left over", written, &port.collect());
+                }
+                _ => t.leave_out("walk of a damaged log with 1 to 15 bytes left over"),
+            },
+            (Err(panic), Err(refused)) => check_refusal(t, "walk", &panic, refused.refusal.number()),
+            (rust, port) => t.differ("walk", &format!("the Rust: {:?}\nthe port: {port:?}", rust.map(|e| e.0.len()).map_err(|p| p.0))),
+        }
+    }
+
+    fn same_whole_walk(&self, t: &mut Tally, end: u64, stop: Option<Stop>) {
+        let used = self.port.used();
+        let whole = self.port.walk();
+        let holds = whole
+            .map_or(false, |w| w.end.0 == end && Some(w.stop) == stop && w.unread == used - end && (w.stop == Stop::End) == (end == used));
+        t.holds("walk: stop, E, unread", holds, &(whole, end, stop));
+    }
+
+    /// Opens both; none where the Rust panics.
+    pub fn open(&self, t: &mut Tally, size: usize, own: u64) -> Option<Stores> {
+        let metrics = Arc::new(Metrics::default());
+        let committee = Committee::new_test(vec![1; size]);
+        let rust = caught(|| BlockStore::open(own, self.reader.clone(), &self.writer, metrics.clone(), &committee));
+        let port = self.port.recover(size as u64, own);
+        match (rust, port) {
+            (Ok(rust), Ok(port)) => {
+                same_state(t, &answer_of(&rust, &Entries::of(&self.reader, &self.writer), size), &port);
+                let store = kadzhomir::BlockStore::open(&port);
+                Some(Stores { size, rust: rust.block_store, metrics, port: store })
+            }
+            (Err(panic), _) if panic.left_over() => {
+                t.leave_out("recovery of a log with 1 to 15 bytes left over");
+                None
+            }
+            (Err(panic), Err(refused)) => {
+                check_refusal(t, "recovery", &panic, refused.refusal.number());
+                check_start(t, &panic, &refused);
+                None
+            }
+            (rust, port) => t.differ("recovery", &format!("the Rust: {:?}\nthe port: {port:?}", rust.map(|_| ()).map_err(|p| p.0))),
+        }
+    }
+}
+
+/// The number must be one that stands for the panic.
+pub fn check_refusal(t: &mut Tally, kind: &'static str, panic: &Panic, refusal: u8) {
+    if !panic.numbers().contains(&refusal) {
+        t.differ(kind, &format!("the Rust panics: {}\nthe port refuses with {refusal}, not one of {:?}", panic.0, panic.numbers()));
+    }
+    t.refused(kind, refusal);
+}
+
+/// Where the panic names a position, it must be the start in the refusal.
+fn check_start(t: &mut Tally, panic: &Panic, refused: &RefusedAt) {
+    let named = panic.0.split("position").nth(1).map(|rest| rest.trim_start_matches([' ', ':']));
+    let digits: Option<String> = named.map(|rest| rest.chars().take_while(char::is_ascii_digit).collect());
+    if let Some(Ok(start)) = digits.map(|d| d.parse::<u64>()) {
+        t.same("recovery: start concerned", start, refused.start.0);
+    }
+}
+
+fn rows(words: &[u64]) -> Vec<Row> {
+    words.chunks_exact(8).map(|row| row.try_into().unwrap()).collect()
+}
+
+fn place(range: Option<std::ops::Range<usize>>) -> Place {
+    range.map_or([0; 3], |r| [1, r.start as u64, r.len() as u64])
+}
+
+/// What the Rust recovered against the port's tables and words. The Rust's sets are in the port's order already.
+pub fn same_state(t: &mut Tally, rust: &Answer, port: &Recovered) {
+    for (i, kind) in ["state: pending", "state: unprocessed", "state: committed", "state: index"].iter().enumerate() {
+        t.same(kind, &rust.tables[i], &rows(&port.tables()[i]));
+    }
+    t.same("state: last own block", rust.places[0], place(port.last_own_block()));
+    t.same("state: state", rust.places[1], place(port.state()));
+    t.same("state: committed state", rust.places[2], place(port.committed_state()));
+    t.same("state: leader", rust.leader.as_ref().map(reference), port.last_committed_leader());
+    let seen = (0..128).map(|a| port.last_seen_by_authority(a)).collect::<Vec<_>>();
+    let own = port.last_own_block_ref();
+    t.same("state: summary", (rust.highest, &rust.seen, rust.own.as_ref().map(reference)), (port.highest_round(), &seen, own));
+}
+
+/// The stores that both sides opened.
+pub struct Stores {
+    pub size: usize,
+    pub rust: BlockStore,
+    pub metrics: Arc<Metrics>,
+    pub port: kadzhomir::BlockStore,
+}
+
+impl Stores {
+    /// Inserts a block into both, behind a next entry where one is given. False where the Rust panics.
+    pub fn insert(&mut self, t: &mut Tally, logs: &mut Logs, next_entry: Option<u64>, block: &Data<StatementBlock>) -> bool {
+        let bytes = block.serialized_bytes();
+        let before = (logs.port.image().to_vec(), logs.port.used(), index_of(&self.port), self.port.loads());
+        let writer = &mut logs.writer;
+        let (rust, port) = match next_entry {
+            None => {
+                let rust = caught(|| Some(number((writer, &self.rust).insert_block(block.clone()))));
+                (rust, self.port.insert_block(&mut logs.port, bytes))
+            }
+            Some(next) => {
+                let data = OwnBlockData { next_entry: position(next), block: block.clone() };
+                let rust = caught(|| (writer, &self.rust).insert_own_block(&data)).map(|_| None);
+                (rust, self.port.insert_own_block(&mut logs.port, &[&next.to_le_bytes()[..], bytes].concat()))
+            }
+        };
+        match (rust, port) {
+            (Ok(rust), Ok(port)) => {
+                // The Rust answers no position for an own block: its index has it.
+                let rust = rust.unwrap_or_else(|| self.rust_position(block));
+                t.same("insert: position", rust, port.0);
+                match next_entry {
+                    None => logs.note(rust, 1, bytes),
+                    Some(next) => logs.note(rust, 3, &[&next.to_le_bytes()[..], bytes].concat()),
+                }
+                self.same_summary(t);
+                true
+            }
+            (Err(panic), Err(refusal)) => {
+                check_refusal(t, "insert", &panic, refusal.number());
+                let after = (logs.port.image().to_vec(), logs.port.used(), index_of(&self.port), self.port.loads());
+                t.holds("insert: refused, unchanged", before == after, &refusal);
+                false
+            }
+            (rust, port) => t.differ("insert", &format!("the Rust: {:?}\nthe port: {port:?}", rust.map_err(|p| p.0))),
+        }
+    }
+
+    fn rust_position(&self, block: &StatementBlock) -> u64 {
+        let index = inside::index(&self.rust);
+        let found: Option<WalPosition> = index.iter().find(|(r, _, _)| r == block.reference()).map(|(_, p, _)| *p);
+        number(found.expect("an inserted block is indexed"))
+    }
+
+    pub fn same_summary(&self, t: &mut Tally) {
+        t.same("highest_round", self.rust.highest_round(), self.port.highest_round());
+        t.same("len_expensive", self.rust.len_expensive(), self.port.len_expensive());
+        t.same("last_own_block_ref", self.rust.last_own_block_ref().as_ref().map(reference), self.port.last_own_block_ref());
+        let seen = |f: &dyn Fn(u64) -> u64| (0..self.size as u64).map(f).collect::<Vec<_>>();
+        t.same("last_seen_by_authority", seen(&|a| self.rust.last_seen_by_authority(a)), seen(&|a| self.port.last_seen_by_authority(a)));
+    }
+
+    /// The index with its positions and loaded flags; the port's rows ascend.
+    pub fn same_index(&self, t: &mut Tally) {
+        let rust = inside::index(&self.rust);
+        let mut rust: Vec<_> = rust.iter().map(|(r, p, loaded)| (reference(r), number(*p), *loaded)).collect();
+        rust.sort();
+        t.same("index: rows, positions, loaded", rust, index_of(&self.port));
+    }
+}
+
+fn index_of(store: &kadzhomir::BlockStore) -> Vec<(Reference, u64, bool)> {
+    store.index().map(|i| (i.reference, i.position.0, i.loaded)).collect()
+}

@@ -94,11 +94,7 @@ fn behind_words(s: &[u8], at: usize) -> usize {
 }
 
 fn times_eight(n: usize) -> usize {
-    if n < 0x1000_0000_0000_0000 {
-        8 * n
-    } else {
-        n
-    }
+    if n < 0x1000_0000_0000_0000 { 8 * n } else { n }
 }
 
 // The bytes behind their length at `at`.
@@ -300,15 +296,19 @@ fn do_cleanup(t: Setting, round: u64, image: &[u8], index: &mut [u64]) {
 
 fn do_block_exists(t: Setting, reference: BlockReference, image: &[u8], index: &[u64]) {
     text(b"block_exists");
-    show_answer(store::block_exists(
-        t.k, image, t.used, t.store, index, reference,
-    ));
+    show_answer(store::block_exists(t.k, image, t.used, t.store, index, reference));
 }
 
 fn do_exists_at(t: Setting, authority: u64, round: u64, image: &[u8], index: &[u64]) {
     text(b"block_exists_at_authority_round");
     show_answer(store::block_exists_at_authority_round(
-        t.k, image, t.used, t.store, index, authority, round,
+        t.k,
+        image,
+        t.used,
+        t.store,
+        index,
+        authority,
+        round,
     ));
 }
 
@@ -332,7 +332,15 @@ fn loads_of(t: Setting) -> u64 {
     store.loads
 }
 
-fn look(t: Setting, kind: u64, s: &[u8], at: usize, image: &[u8], index: &[u64], out: &mut [u64]) -> Looked {
+fn look(
+    t: Setting,
+    kind: u64,
+    s: &[u8],
+    at: usize,
+    image: &[u8],
+    index: &[u64],
+    out: &mut [u64],
+) -> Looked {
     let one = number_at(s, at);
     let two = number_at(s, plus(at, 8));
     let three = number_at(s, plus(at, 16));
@@ -345,20 +353,18 @@ fn look(t: Setting, kind: u64, s: &[u8], at: usize, image: &[u8], index: &[u64],
     }
     if kind == 6 {
         return lookup::get_blocks_at_authority_round(
-            t.k, image, t.used, t.store, index, one, two, out,
-        );
-    }
-    if kind == 7 {
-        return lookup::get_own_blocks(
             t.k,
             image,
             t.used,
             t.store,
             index,
             one,
-            two as usize,
+            two,
             out,
         );
+    }
+    if kind == 7 {
+        return lookup::get_own_blocks(t.k, image, t.used, t.store, index, one, two as usize, out);
     }
     lookup::get_others_blocks(
         t.k,
@@ -393,7 +399,15 @@ fn show_kind(kind: u64) {
     text(b"get_others_blocks");
 }
 
-fn do_look(t: Setting, kind: u64, s: &[u8], at: usize, image: &[u8], index: &[u64], out: &mut [u64]) -> Setting {
+fn do_look(
+    t: Setting,
+    kind: u64,
+    s: &[u8],
+    at: usize,
+    image: &[u8],
+    index: &[u64],
+    out: &mut [u64],
+) -> Setting {
     let r = look(t, kind, s, at, image, index, out);
     let now = with_store(t, r.store);
     show_kind(kind);
@@ -421,7 +435,14 @@ fn do_transaction(t: Setting, s: &[u8], at: usize, image: &[u8], index: &[u64]) 
     now
 }
 
-fn do_linked(t: Setting, later: &[u8], earlier: BlockReference, image: &[u8], index: &[u64], work: &mut [u64]) -> Setting {
+fn do_linked(
+    t: Setting,
+    later: &[u8],
+    earlier: BlockReference,
+    image: &[u8],
+    index: &[u64],
+    work: &mut [u64],
+) -> Setting {
     let r = linked::linked(t.k, image, t.used, t.store, index, later, earlier, work);
     let now = with_store(t, r.store);
     text(b"linked");
@@ -507,7 +528,14 @@ fn ask(t: Setting, kind: u64, s: &[u8], at: usize, image: &[u8], index: &[u64]) 
     let list = plus(at, 8);
     let mut authorities = [0u64; 8];
     load_words(s, list, &mut authorities);
-    ask_all(t, number_at(s, at), number_at(s, list), &authorities, image, index);
+    ask_all(
+        t,
+        number_at(s, at),
+        number_at(s, list),
+        &authorities,
+        image,
+        index,
+    );
     Step {
         setting: t,
         at: behind_words(s, list),
@@ -534,7 +562,16 @@ fn width(kind: u64) -> usize {
 }
 
 // A lookup that reads blocks.
-fn find(t: Setting, kind: u64, s: &[u8], at: usize, image: &[u8], index: &[u64], out: &mut [u64], work: &mut [u64]) -> Step {
+fn find(
+    t: Setting,
+    kind: u64,
+    s: &[u8],
+    at: usize,
+    image: &[u8],
+    index: &[u64],
+    out: &mut [u64],
+    work: &mut [u64],
+) -> Step {
     if kind == 9 {
         return Step {
             setting: do_transaction(t, s, at, image, index),
@@ -544,7 +581,14 @@ fn find(t: Setting, kind: u64, s: &[u8], at: usize, image: &[u8], index: &[u64],
     if kind == 10 {
         let earlier = behind(s, at);
         return Step {
-            setting: do_linked(t, bytes_at(s, at), reference_at(s, earlier), image, index, work),
+            setting: do_linked(
+                t,
+                bytes_at(s, at),
+                reference_at(s, earlier),
+                image,
+                index,
+                work,
+            ),
             at: plus(earlier, 56),
         };
     }
@@ -554,7 +598,15 @@ fn find(t: Setting, kind: u64, s: &[u8], at: usize, image: &[u8], index: &[u64],
     }
 }
 
-fn call(t: Setting, s: &[u8], at: usize, image: &mut [u8], index: &mut [u64], out: &mut [u64], work: &mut [u64]) -> Step {
+fn call(
+    t: Setting,
+    s: &[u8],
+    at: usize,
+    image: &mut [u8],
+    index: &mut [u64],
+    out: &mut [u64],
+    work: &mut [u64],
+) -> Step {
     let kind = number_at(s, at);
     let arguments = plus(at, 8);
     if kind < 4 {
@@ -567,7 +619,15 @@ fn call(t: Setting, s: &[u8], at: usize, image: &mut [u8], index: &mut [u64], ou
 }
 
 // The calls whose number stands at `at`; answers the place behind them.
-fn run_calls(t: Setting, s: &[u8], at: usize, image: &mut [u8], index: &mut [u64], out: &mut [u64], work: &mut [u64]) -> usize {
+fn run_calls(
+    t: Setting,
+    s: &[u8],
+    at: usize,
+    image: &mut [u8],
+    index: &mut [u64],
+    out: &mut [u64],
+    work: &mut [u64],
+) -> usize {
     let count = number_at(s, at);
     let mut step = Step {
         setting: t,
@@ -602,7 +662,15 @@ fn setting_at(s: &[u8], at: usize) -> Setting {
 }
 
 // Lends the memory, each part as long as the case says: the words at `at`, the image at `from`.
-fn lend(s: &[u8], at: usize, from: usize, image: &mut [u8], index: &mut [u64], out: &mut [u64], work: &mut [u64]) -> usize {
+fn lend(
+    s: &[u8],
+    at: usize,
+    from: usize,
+    image: &mut [u8],
+    index: &mut [u64],
+    out: &mut [u64],
+    work: &mut [u64],
+) -> usize {
     let i = within(number_at(s, from), image.len());
     let x = within(number_at(s, plus(at, 48)), index.len());
     let o = within(number_at(s, plus(at, 56)), out.len());

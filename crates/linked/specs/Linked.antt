@@ -24,7 +24,7 @@ unfoldable pub downTo : ℕ → ℕ → List (List ℕ) → List (List ℕ)
 downTo low zero rows = []
 downTo low (suc n) rows = pick (leb low n) (byRound n rows ++ downTo low n rows) []
 
--- the includes of a block, of its bytes
+-- the includes of a block, of its bytes. A block that was read decodes (proofs/Decoding.antt, `read-decodes`)
 unfoldable pub includesOf : List ℕ → List BlockReference
 includesOf bytes = answer [] (λ (b : BlockValue) e. b .includes) (block bytes 0)
 

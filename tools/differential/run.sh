@@ -3,7 +3,8 @@
 #
 #   bash tools/differential/run.sh [--seed N] [--logs N] [--k 16|28] [--part NAME [--log N]]
 #
-# Without --k it runs both builds of the Rust: regions of 2^28 bytes, and its test build with 2^16. --logs counts the random
+# It makes the sample of the Rust's answers that crates/store_cases replays, and compares it with the stored one. Then,
+# without --k it runs both builds of the Rust: regions of 2^28 bytes, and its test build with 2^16. --logs counts the random
 # logs of each. It ends at the first difference, says how to see it again, and answers 1.
 #   KADZHOMIR_LIB_DIR   a folder with another libnode.a (default: the proved one, by "rt staticlib node")
 #   RUST_SRC            see tools/oracle/prepare.sh
@@ -28,10 +29,19 @@ quiet() {
 [ -n "${KADZHOMIR_LIB_DIR:-}" ] || quiet rt staticlib node
 cd tools/oracle
 . ./prepare.sh
-quiet cargo build --offline --profile checked --features differential --bin differential
+quiet cargo build --offline --profile checked --features differential --bin differential --bin store
 program28=target/checked/differential
 quiet cargo test --offline --profile checked --features differential --no-run --test regions16
 program16=$(sed -n 's/.*Executable .*(\(.*\))/\1/p' "$out/build.log")
+
+# The sample of the Rust's answers that crates/store_cases replays without it: made anew, it must be what is stored there.
+python3 ../model/store_cases.py ask "$out/asked"
+target/checked/store "$out/asked" > "$out/answers"
+python3 ../model/store_cases.py write "$out" "$out/answers"
+for file in stdin stdout; do
+    cmp "$out/$file" "$root/crates/store_cases/$file" || { echo "copy $out/std* to crates/store_cases if that is meant" >&2; exit 1; }
+done
+echo "sample: as stored in crates/store_cases"
 
 for exponent in $k; do
     case $exponent in
@@ -39,8 +49,10 @@ for exponent in $k; do
     16) run=("$program16" differential) ;;
     *) echo "the Rust has k = 16 and k = 28" >&2; exit 2 ;;
     esac
-    "${run[@]}" ${words[@]+"${words[@]}"} | tee "$out/k$exponent"
-    [ "${PIPESTATUS[0]}" -eq 0 ] || exit 1
+    status=0
+    "${run[@]}" ${words[@]+"${words[@]}"} > "$out/k$exponent" || status=$?
+    cat "$out/k$exponent"
+    [ "$status" -eq 0 ] || { echo "k = $exponent: the comparison ended with status $status"; exit 1; }
 done
 cd "$out"
 for exponent in $k; do tail -n 1 "k$exponent"; done |

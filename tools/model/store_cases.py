@@ -5,7 +5,7 @@ Refusals are the model's (store.py): the Rust has none. What is served is the Ru
 the cases of regions of 2^28 bytes whose calls are all served, runs them on the unedited BlockStore and says what it finds in the same
 lines. The model answers every case, and must agree with the Rust to the byte.
 
-In tools/oracle, once build.sh has run:
+tools/differential/run.sh does all of this and compares the result with what is stored. By hand, in tools/oracle, once build.sh has run:
 
     python3 ../model/store_cases.py ask ASKED
     target/release/store ASKED > ANSWERS

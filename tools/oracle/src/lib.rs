@@ -156,6 +156,8 @@ pub mod metrics {
 pub mod corpus;
 #[cfg(feature = "differential")]
 pub mod differential;
+#[cfg(feature = "differential")]
+pub mod measure;
 pub mod recovery;
 pub mod store;
 

@@ -42,6 +42,12 @@ impl Panic {
         found.map_or(&[], |(_, numbers)| numbers)
     }
 
+    /// The position that the message names.
+    pub fn position(&self) -> Option<u64> {
+        let named = self.0.split("position").nth(1)?.trim_start_matches([' ', ':']);
+        named.split(|c: char| !c.is_ascii_digit()).next()?.parse().ok()
+    }
+
     pub fn left_over(&self) -> bool {
         self.0.contains(LEFT_OVER)
     }

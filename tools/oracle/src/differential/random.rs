@@ -187,6 +187,7 @@ fn damage(t: &mut Tally, m: &mut Maker, logs: &Logs) {
     let mut damaged = Logs::of(&bytes, vec![0x5a; IMAGE]);
     if let Ok(walked) = damaged.port.walk() {
         if walked.stop == Stop::Torn {
+            check_torn(t, &damaged, walked.end.0);
             damaged = Logs::of(&bytes[..walked.end.0 as usize], vec![0x5a; IMAGE]);
             // What was torn lies behind the log for the port.
             damaged.port.image_mut()[..used].copy_from_slice(&bytes);
@@ -195,6 +196,13 @@ fn damage(t: &mut Tally, m: &mut Maker, logs: &Logs) {
     damaged.pad();
     damaged.same_entries(t);
     damaged.open(t, m.size, m.own);
+}
+
+/// An entry that passes the log's end stands at E, or, where nothing stands there, at the next region's start.
+fn check_torn(t: &mut Tally, logs: &Logs, end: u64) {
+    let blank = |p: u64| REGION - p % REGION < 16 || p + 16 <= logs.port.used() && logs.port.image()[p as usize..][..12] == [0; 12];
+    let p = if blank(end) && end % REGION != 0 { (end / REGION + 1) * REGION } else { end };
+    t.holds("walk: TORN at an entry that passes the end", p < logs.port.used() && passes_end(logs, p), &(end, p));
 }
 
 /// A byte of an entry: of its header, or of its payload with or without the checksum's repair.
@@ -241,18 +249,21 @@ fn length_at(logs: &Logs, p: u64) -> u64 {
 fn same_read(t: &mut Tally, logs: &Logs, p: u64) {
     let rust = caught(|| logs.reader.read(position(p)).unwrap());
     let port = logs.port.read(WalPosition(p));
+    t.same("read: whether past the log's end", passes_end(logs, p), port == Err(Refusal::PastUsed));
     match (rust, port) {
         (Ok((tag, data)), Ok(entry)) => {
             t.same("read", (tag, &data[..]), (entry.tag, &logs.port.image()[entry.payload()]));
         }
-        // The Rust reads past the log's end, where it finds zeros.
-        (_, Err(Refusal::PastUsed)) => {
-            let past = p + 16 > logs.port.used() || p + length_at(logs, p) > logs.port.used();
-            t.holds("read: past the log's end", past, &p);
-        }
+        (_, Err(Refusal::PastUsed)) => {}
         (Err(panic), Err(refusal)) => check_refusal(t, "read", &panic, refusal.number()),
         (rust, port) => t.differ("read", &format!("at {p}\nthe Rust: {:?}\nthe port: {port:?}", rust.map_err(|e| e.0))),
     }
+}
+
+/// Whether a read is to be refused because position, header or payload pass the log's end, where the Rust finds zeros.
+fn passes_end(logs: &Logs, p: u64) -> bool {
+    let (used, left, length) = (logs.port.used(), REGION - p % REGION, length_at(logs, p));
+    p >= used || left >= 16 && (p + 16 > used || (16..=left).contains(&length) && p + length > used)
 }
 
 /// A block whose entry is damaged after the log was opened: it is not loaded, so that both read it.
@@ -286,15 +297,14 @@ fn look_at_damage(t: &mut Tally, logs: &Logs, stores: &mut Stores, row: kadzhomi
     let loads = stores.port.loads();
     let rust = caught(|| stores.rust.get_block(asked));
     let port = stores.port.get_block(&logs.port, &row.reference);
+    let past = passes_end(logs, row.position.0);
+    t.same("damaged lookup: whether past the log's end", past, port == Err(Refusal::PastUsed));
     match (rust, port) {
         (Ok(rust), Ok(port)) => {
             let rust = rust.map(|b| (reference(b.reference()), b.serialized_bytes().to_vec()));
             t.same("damaged lookup", rust, port.map(|f| (f.reference, logs.port.image()[f.bytes].to_vec())));
         }
-        (_, Err(Refusal::PastUsed)) => {
-            let p = row.position.0;
-            t.holds("damaged lookup: past the log's end", p + length_at(logs, p) > logs.port.used(), &p);
-        }
+        (_, Err(Refusal::PastUsed)) => {}
         (Err(panic), Err(refusal)) => {
             check_refusal(t, "damaged lookup", &panic, refusal.number());
             t.holds("damaged lookup: no load counted", stores.port.loads() == loads, &stores.port.loads());

@@ -6,7 +6,7 @@ use crate::committee::Committee;
 use crate::data::Data;
 use crate::metrics::Metrics;
 use crate::recovery::{answer_of, digest, number, position, Answer, Entries, Place, Row, K};
-use crate::types::{BlockReference, StatementBlock};
+use crate::types::{BaseStatement, BlockReference, StatementBlock};
 use crate::wal::{open_file_for_wal, walf, WalPosition, WalReader, WalWriter};
 use kadzhomir::{Log, Recovered, RefusedAt, Stop};
 use std::fs::File;
@@ -169,12 +169,42 @@ impl Logs {
             }
             (Err(panic), Err(refused)) => {
                 check_refusal(t, "recovery", &panic, refused.refusal.number());
-                check_start(t, &panic, &refused);
+                self.check_start(t, &panic, &refused, size, own);
                 None
             }
             (rust, port) => t.differ("recovery", &format!("the Rust: {:?}\nthe port: {port:?}", rust.map(|_| ()).map_err(|p| p.0))),
         }
     }
+
+    /// The start in the refusal: the position that the panic names, if any. Else the Rust opens the log before that entry, and
+    /// panics once it has the entry.
+    fn check_start(&self, t: &mut Tally, panic: &Panic, refused: &RefusedAt, size: usize, own: u64) {
+        let (start, number) = (refused.start.0 as usize, refused.refusal.number());
+        if let Some(named) = panic.position() {
+            return t.same("recovery: start concerned", named, refused.start.0);
+        }
+        let image = self.port.image();
+        let length = u32::from_le_bytes(image[start + 8..start + 12].try_into().unwrap()) as usize;
+        let entry = image.get(start + 16..start + length);
+        if number == 11 {
+            let decodes = entry.map(|e| bincode::deserialize::<Vec<BaseStatement>>(e).is_ok());
+            return t.same("recovery: start concerned", Some(false), decodes);
+        }
+        // A payload that does not decode is found last, once every entry was applied.
+        let before = numbers_of(&image[..start], size, own);
+        t.holds("recovery: the log before it opens", before.is_empty() || before == [11], &(start, number));
+        if number != 6 {
+            t.holds("recovery: start concerned", numbers_of(&image[..start + length], size, own).contains(&number), &(start, number));
+        }
+    }
+}
+
+/// The numbers for the Rust's panic over these bytes; none where it opens them.
+fn numbers_of(bytes: &[u8], size: usize, own: u64) -> &'static [u8] {
+    let logs = Logs::of(bytes, bytes.to_vec());
+    let committee = Committee::new_test(vec![1; size]);
+    let rust = caught(|| BlockStore::open(own, logs.reader.clone(), &logs.writer, Arc::new(Metrics::default()), &committee));
+    rust.map_or_else(|panic| panic.numbers(), |_| &[])
 }
 
 /// The number must be one that stands for the panic.
@@ -183,15 +213,6 @@ pub fn check_refusal(t: &mut Tally, kind: &'static str, panic: &Panic, refusal: 
         t.differ(kind, &format!("the Rust panics: {}\nthe port refuses with {refusal}, not one of {:?}", panic.0, panic.numbers()));
     }
     t.refused(kind, refusal);
-}
-
-/// Where the panic names a position, it must be the start in the refusal.
-fn check_start(t: &mut Tally, panic: &Panic, refused: &RefusedAt) {
-    let named = panic.0.split("position").nth(1).map(|rest| rest.trim_start_matches([' ', ':']));
-    let digits: Option<String> = named.map(|rest| rest.chars().take_while(char::is_ascii_digit).collect());
-    if let Some(Ok(start)) = digits.map(|d| d.parse::<u64>()) {
-        t.same("recovery: start concerned", start, refused.start.0);
-    }
 }
 
 fn rows(words: &[u64]) -> Vec<Row> {

@@ -1,0 +1,4 @@
+//! The measure: the Rust's times and the library's.
+fn main() {
+    oracle::measure::main();
+}

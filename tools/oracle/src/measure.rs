@@ -1,0 +1,324 @@
+//! Times of the unedited Rust and of the proved library, for the same inputs, in one process.
+//!
+//! The Rust's log is a file (in memory where the system has such a folder), the port's an image that holds the same bytes. What the
+//! Rust does beside its answer is counted with it: a system call for each append, mapping the file and the first touch of its pages
+//! in a walk and in recovery. Reading the file into the image, which is the caller's, is not counted for the port.
+//!
+//! Arguments: none for the tables; or WHAT SIDE TIMES, for a count of instructions.
+use crate::block_store::{BlockStore, BlockWriter, OwnBlockData};
+use crate::committee::Committee;
+use crate::data::Data;
+use crate::metrics::Metrics;
+use crate::recovery::{block_with, digest, position, K};
+use crate::types::*;
+use crate::wal::{open_file_for_wal, walf, WalReader, WalWriter};
+use kadzhomir::Log;
+use std::hint::black_box;
+use std::path::PathBuf;
+use std::sync::Arc;
+
+/// The rounds of each measurement; the two sides take turns in each.
+const ROUNDS: usize = 9;
+const SIZES: [usize; 3] = [64, 1 << 10, 64 << 10];
+const BLOCKS: [u64; 3] = [1_000, 10_000, 100_000];
+const AUTHORITIES: u64 = 4;
+
+fn path() -> PathBuf {
+    let memory = PathBuf::from("/dev/shm");
+    let folder = if memory.is_dir() { memory } else { std::env::temp_dir() };
+    folder.join(format!("measure-{}", std::process::id()))
+}
+
+fn log_file() -> (WalWriter, WalReader) {
+    walf(open_file_for_wal(path()).unwrap()).unwrap()
+}
+
+fn new_file() -> (WalWriter, WalReader) {
+    let _ = std::fs::remove_file(path());
+    log_file()
+}
+
+// ---- Times
+
+/// The processor's time of this thread, system calls with it, in nanoseconds: other programs take none of it.
+fn now() -> f64 {
+    let mut t = libc::timespec { tv_sec: 0, tv_nsec: 0 };
+    assert_eq!(unsafe { libc::clock_gettime(libc::CLOCK_THREAD_CPUTIME_ID, &mut t) }, 0);
+    t.tv_sec as f64 * 1e9 + t.tv_nsec as f64
+}
+
+/// The time of one of `times` calls.
+fn time(times: usize, mut call: impl FnMut()) -> f64 {
+    let start = now();
+    (0..times).for_each(|_| call());
+    (now() - start) / times as f64
+}
+
+fn shown(ns: f64) -> String {
+    match ns {
+        n if n < 1e3 => format!("{n:.0} ns"),
+        n if n < 1e6 => format!("{:.2} µs", n / 1e3),
+        n if n < 1e9 => format!("{:.2} ms", n / 1e6),
+        n => format!("{:.2} s", n / 1e9),
+    }
+}
+
+fn median(mut xs: Vec<f64>) -> f64 {
+    xs.sort_by(f64::total_cmp);
+    xs[xs.len() / 2]
+}
+
+/// A line of the table: the median of each side, and the least, the median and the greatest ratio of a round.
+fn line(what: &str, mut round: impl FnMut() -> (f64, f64)) {
+    let both: Vec<(f64, f64)> = (0..ROUNDS).map(|_| round()).collect();
+    let ratios: Vec<f64> = both.iter().map(|(rust, port)| port / rust).collect();
+    let (least, most) = ratios.iter().fold((f64::MAX, 0f64), |(l, m), r| (l.min(*r), m.max(*r)));
+    let sides = [both.iter().map(|b| b.0).collect(), both.iter().map(|b| b.1).collect()].map(|xs| shown(median(xs)));
+    println!("| {what} | {} | {} | {least:.2} | {:.2} | {most:.2} |", sides[0], sides[1], median(ratios));
+}
+
+fn head(title: &str) {
+    println!("\n{title}\n\n| | Rust | port | ratio: least | median | greatest |\n|---|---|---|---|---|---|");
+}
+
+// ---- Appends and walks
+
+/// Enough entries for a steady time, in at most 64 MiB.
+fn entries(size: usize) -> usize {
+    (64 << 20) / (size + 16).max(6400)
+}
+
+fn append_rust(size: usize) -> f64 {
+    let (mut writer, _reader) = new_file();
+    let payload = vec![7; size];
+    time(entries(size), || drop(black_box(writer.write(4, &payload).unwrap())))
+}
+
+fn append_port(image: &mut Vec<u8>, size: usize) -> f64 {
+    let payload = vec![7; size];
+    let mut log = Log::new(K, std::mem::take(image), 0);
+    let t = time(entries(size), || drop(black_box(log.append(4, &payload).unwrap())));
+    *image = std::mem::take(log.image_mut());
+    t
+}
+
+fn walk_rust() {
+    let (writer, reader) = log_file();
+    black_box(reader.iter_until(&writer).count());
+}
+
+fn walk_port(log: &Log<Vec<u8>>) {
+    log.walk().unwrap();
+}
+
+fn logs(size: usize, count: usize) -> Log<Vec<u8>> {
+    let (mut writer, _reader) = new_file();
+    let payload: Vec<u8> = (0..size).map(|i| (i * 31 >> 3) as u8).collect();
+    (0..count).for_each(|_| drop(writer.write(4, &payload).unwrap()));
+    file_log()
+}
+
+/// The bytes of the file as the port's log.
+fn file_log() -> Log<Vec<u8>> {
+    let image = std::fs::read(path()).unwrap();
+    let used = image.len() as u64;
+    Log::new(K, image, used)
+}
+
+fn append_and_walk() {
+    head("Append, for each entry");
+    let mut image = vec![1; 128 << 20];
+    for size in SIZES {
+        line(&format!("{size} bytes"), || (append_rust(size), append_port(&mut image, size)));
+    }
+    drop(image);
+    head("Walk, for each entry");
+    for size in SIZES {
+        let n = entries(size);
+        let log = logs(size, n);
+        line(&format!("{size} bytes"), || (time(1, walk_rust) / n as f64, time(1, || walk_port(&log)) / n as f64));
+    }
+    head("The checksum alone: 64 MiB, crc32fast against a walk of one entry");
+    let size = 64 << 20;
+    let log = logs(size, 1);
+    line("64 MiB", || (time(1, || drop(black_box(crc32fast::hash(&log.image()[16..])))), time(1, || walk_port(&log))));
+}
+
+// ---- Recovery and lookups
+
+fn block(i: u64) -> Data<StatementBlock> {
+    let (authority, round) = (i % AUTHORITIES, i / AUTHORITIES + 1);
+    let below = |a| reference((round - 2) * AUTHORITIES + a);
+    let includes = if round > 1 { (0..3).map(below).collect() } else { vec![] };
+    block_with(authority, round, &i.to_be_bytes(), includes, vec![BaseStatement::Share(Transaction::new(vec![5; 64]))])
+}
+
+fn reference(i: u64) -> BlockReference {
+    let (authority, round) = (i % AUTHORITIES, i / AUTHORITIES + 1);
+    *block_with(authority, round, &i.to_be_bytes(), vec![], vec![]).reference()
+}
+
+fn port_reference(r: &BlockReference) -> kadzhomir::BlockReference {
+    kadzhomir::BlockReference { authority: r.authority, round: r.round, digest: digest(r) }
+}
+
+/// A log of n blocks of 4 authors in rising rounds; each own block drops what was pending before it.
+fn block_log(n: u64) -> Log<Vec<u8>> {
+    let (mut writer, _reader) = new_file();
+    for i in 0..n {
+        if i % AUTHORITIES == 0 {
+            OwnBlockData { next_entry: position(u64::MAX), block: block(i) }.write_to_wal(&mut writer);
+        } else {
+            writer.write(1, block(i).serialized_bytes()).unwrap();
+        }
+    }
+    file_log()
+}
+
+fn open_rust() -> (BlockStore, Arc<Metrics>) {
+    let (writer, reader) = log_file();
+    let metrics = Arc::new(Metrics::default());
+    let committee = Committee::new_test(vec![1; AUTHORITIES as usize]);
+    (BlockStore::open(0, Arc::new(reader), &writer, metrics.clone(), &committee).block_store, metrics)
+}
+
+/// The rows that this log needs, so that one call recovers it.
+fn rows(n: u64) -> [usize; 4] {
+    [8, n as usize, 0, n as usize]
+}
+
+fn recover_port(log: &Log<Vec<u8>>, n: u64) -> kadzhomir::BlockStore {
+    kadzhomir::BlockStore::open(&log.recover_in_rows(AUTHORITIES, 0, rows(n)).unwrap())
+}
+
+fn recovery_and_lookups() {
+    for n in BLOCKS {
+        let log = block_log(n);
+        head(&format!("{n} blocks, a log of {} bytes", log.used()));
+        let recover = || (time(1, || drop(black_box(open_rust()))), time(1, || drop(black_box(recover_port(&log, n)))));
+        line("recovery", recover);
+        lookups(&log, n);
+        inserts(log, n);
+    }
+}
+
+/// Blocks of rounds above those in the log. The Rust writes each to its file.
+fn inserts(mut log: Log<Vec<u8>>, n: u64) {
+    const EACH: usize = 20;
+    let (mut writer, _reader) = log_file();
+    let (rust, _metrics) = open_rust();
+    let mut port = recover_port(&log, n);
+    let room = log.image().len() + (1 << 20);
+    log.image_mut().resize(room, 0);
+    let mut blocks = (n..).filter(|i| i % AUTHORITIES != 0).map(block);
+    line("insert_block", || {
+        let some: Vec<_> = blocks.by_ref().take(EACH).collect();
+        let (mut a, mut b) = (some.iter(), some.iter());
+        let rust = time(EACH, || drop((&mut writer, &rust).insert_block(a.next().unwrap().clone())));
+        (rust, time(EACH, || drop(port.insert_block(&mut log, b.next().unwrap().serialized_bytes()).unwrap())))
+    });
+}
+
+/// Blocks spread over the log, one after the other.
+struct Asked(u64, u64);
+
+impl Asked {
+    fn next(&mut self) -> u64 {
+        self.0 = (self.0 + 7919) % self.1;
+        self.0
+    }
+}
+
+fn lookups(log: &Log<Vec<u8>>, n: u64) {
+    let (rust, _metrics) = open_rust();
+    let mut port = recover_port(log, n);
+    let (often, times) = (2_000, (2_000_000 / n).max(20) as usize);
+    let references: Vec<BlockReference> = (0..n).map(reference).collect();
+    let ported: Vec<kadzhomir::BlockReference> = references.iter().map(port_reference).collect();
+    let (mut a, mut b) = (Asked(0, n), Asked(0, n));
+    let mut round = |i: &mut Asked| i.next() / AUTHORITIES + 1;
+    line("get_block", || {
+        let rust = time(often, || drop(black_box(rust.get_block(references[a.next() as usize]))));
+        (rust, time(times, || drop(black_box(port.get_block(log, &ported[b.next() as usize]).unwrap()))))
+    });
+    line("block_exists", || {
+        let rust = time(often, || drop(black_box(rust.block_exists(references[a.next() as usize]))));
+        (rust, time(times, || drop(black_box(port.block_exists(log, &ported[b.next() as usize]).unwrap()))))
+    });
+    line("get_blocks_by_round", || {
+        let rust = time(often, || drop(black_box(rust.get_blocks_by_round(round(&mut a)))));
+        (rust, time(times, || drop(black_box(port.get_blocks_by_round(log, round(&mut b)).unwrap()))))
+    });
+    line("get_own_blocks, 10 of them", || {
+        let rust = time(often, || drop(black_box(rust.get_own_blocks(round(&mut a), 10))));
+        (rust, time(times, || drop(black_box(port.get_own_blocks(log, round(&mut b), 10).unwrap()))))
+    });
+    line("get_others_blocks, 10 rounds", || {
+        let rust = time(often, || drop(black_box(rust.get_others_blocks(round(&mut a), 1, 10))));
+        (rust, time(times, || drop(black_box(port.get_others_blocks(log, round(&mut b), 1, 10).unwrap()))))
+    });
+    line("get_transaction", || {
+        let rust = time(often, || drop(black_box(rust.get_transaction(&TransactionLocator::new(references[a.next() as usize], 0)))));
+        (rust, time(times, || drop(black_box(port.get_transaction(log, &ported[b.next() as usize], 0).unwrap()))))
+    });
+    linked(log, n, &rust, &mut port);
+}
+
+/// An ancestor five rounds below.
+#[cfg(feature = "linked")]
+fn linked(log: &Log<Vec<u8>>, n: u64, rust: &BlockStore, port: &mut kadzhomir::BlockStore) {
+    let (later, earlier) = (block(n - 1), block(n - 1 - 5 * AUTHORITIES));
+    let earlier_reference = port_reference(earlier.reference());
+    let times = (2_000_000 / n).max(20) as usize;
+    line("linked, five rounds", || {
+        let rust = time(1_000, || drop(black_box(rust.linked(&later, &earlier))));
+        (rust, time(times, || drop(black_box(port.linked(log, later.serialized_bytes(), &earlier_reference).unwrap()))))
+    });
+}
+
+#[cfg(not(feature = "linked"))]
+fn linked(_: &Log<Vec<u8>>, _: u64, _: &BlockStore, _: &mut kadzhomir::BlockStore) {}
+
+// ---- Counting instructions
+
+/// Does one thing so many times, on one side: two runs with different numbers show what one takes.
+fn counted(what: &str, port: bool, times: usize) {
+    let n = BLOCKS[0];
+    let log = if what == "walk" { logs(1 << 10, 1_000) } else { block_log(n) };
+    let (rust, _metrics) = open_rust_if(what != "walk");
+    let mut store = rust.is_some().then(|| recover_port(&log, n));
+    let r = reference(n / 2);
+    let ported = port_reference(&r);
+    for _ in 0..times {
+        match (what, port) {
+            ("walk", false) => walk_rust(),
+            ("walk", true) => walk_port(&log),
+            ("recovery", false) => drop(black_box(open_rust())),
+            ("recovery", true) => drop(black_box(recover_port(&log, n))),
+            ("get_block", false) => drop(black_box(rust.as_ref().unwrap().get_block(r))),
+            ("get_block", true) => drop(black_box(store.as_mut().unwrap().get_block(&log, &ported))),
+            _ => panic!("walk, recovery or get_block"),
+        }
+    }
+}
+
+fn open_rust_if(wanted: bool) -> (Option<BlockStore>, Option<Arc<Metrics>>) {
+    if !wanted {
+        return (None, None);
+    }
+    let (store, metrics) = open_rust();
+    (Some(store), Some(metrics))
+}
+
+pub fn main() {
+    let words: Vec<String> = std::env::args().skip(1).collect();
+    match &words[..] {
+        [what, side, times] => counted(what, side == "port", times.parse().expect("a number")),
+        _ => {
+            println!("Processor time; {ROUNDS} rounds each; the ratio is the port's time over the Rust's.");
+            append_and_walk();
+            recovery_and_lookups();
+        }
+    }
+    let _ = std::fs::remove_file(path());
+}

@@ -23,8 +23,8 @@ pub data In {A : Type 0} (x : A) : List A → Type 0 where
   first : {xs : List A} → In x (x ∷ xs)
   behind : {y : A} {xs : List A} → In x xs → In x (y ∷ xs)
 
--- from a block of the round `suc n` that includes `includes`, a step to an indexed block of the round n, and there the earlier block or
--- a chain from that block on
+-- from a block of the round `suc n` that includes `includes`, a step to the block of an index row of the round n, known by the reference
+-- in the block read, and there the earlier block or a chain from that block on. That row and block agree is not asked.
 pub data Chain (blocks : List Indexed) (earlier : BlockReference) : ℕ → List BlockReference → Type 0 where
   ends : {n : ℕ} {includes : List BlockReference} (b : Indexed) → In b blocks → b .round ≡ n → In (b .reference) includes
       → n ≡ earlier .round → b .reference ≡ earlier → Chain blocks earlier (suc n) includes

@@ -1,6 +1,6 @@
 -- The call `linked`. Document 01, "Lookups": "it looks up every block of the rounds from just under the later's down to the earlier's.
 -- Before any read it checks 9 for the later block, then 15 for its working rows, as many as the index has; these end zero." The order of
--- checks before that is a query's: 1, 2, 18.
+-- checks before that is a query's: 1, 2, 18. That the working rows end zero stands in the contract itself.
 use mathlib.Core.Bool.{Bool, false}
 use mathlib.Core.List.{List, [], _∷_, _++_}
 use Prim.Native.Nat.{ℕ, zero, suc}

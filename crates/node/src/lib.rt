@@ -1,5 +1,5 @@
 // The node's calls for programs in C or Rust (include/kadzhomir.h). A slice is passed as a pointer and
-// a number of elements, and no two slices of a call may overlap: nothing asks that of a caller in C.
+// a number of elements, and one that a call may write overlaps no other: nothing asks that of a caller in C.
 // An answer is words in a slice that the caller lends; those that do not fit are left out. A store is
 // words that the caller keeps. Each call answers the refusal's number, 0 where there is none.
 ghost use mathlib.Core.Path.{_≡_};

@@ -2,7 +2,7 @@
 use mathlib.Core.Path.{_≡_, refl, sym, ap, ap₂, _∙_, subst}
 use mathlib.Core.List.{List, [], _∷_, _++_, map, append-nil}
 use mathlib.Core.Logic.{_⊎_, ⊎-elim}
-use mathlib.Core.Option.{none}
+use mathlib.Core.Option.{none, some}
 use Prim.Native.Nat.{ℕ, _<_}
 use native.Mathlib.Omega.{arith}
 use borrow.Author.Tests.{ne-eqb}
@@ -49,7 +49,7 @@ module _ (a : Entry) (one : a .tag ≡ 1 → ⊥) (three : a .tag ≡ 3 → ⊥)
   commit-no-block bad h = let z : _≡_ {A = ℕ} 0 1 = cc in absurd (omega arith)
   commit-no-block (got c e) {i} h = let is : isCommit c ≡ i = cc in ap blockIn (sym is)
 
-  item-no-block : {i : Item} → judge a ≡ item i → blockIn i ≡ none
+  pub item-no-block : {i : Item} → judge a ≡ item i → blockIn i ≡ none
   unfolding judge pick blockIn
   item-no-block {i} h =
       ⊎-elim
@@ -101,6 +101,7 @@ pub record Holds (a : Entry) (r : BlockReference) : Type 0 where
   pub item : Item
   pub is : judge a ≡ Judged.item item
   pub block : blockOf (record { entry = a; item = item }) ≡ record { reference = r; position = a .start } ∷ []
+  pub holds : blockIn item ≡ some r
   pub digested : Digested r
 
 module _ (start : ℕ) (payload : List ℕ) (all : AllBytes payload) {r : BlockReference} where
@@ -120,6 +121,7 @@ module _ (start : ℕ) (payload : List ℕ) (all : AllBytes payload) {r : BlockR
             item = isBlock (b .reference);
             is = judge-block start payload e;
             block = ap (λ (r : BlockReference). record { reference = r; position = start } ∷ []) same;
+            holds = ap (λ (r : BlockReference). some r) same;
             digested = subst Digested same (block-digested payload all 0 e);
           }
 
@@ -139,6 +141,7 @@ module _ (start : ℕ) (payload : List ℕ) (all : AllBytes payload) {r : BlockR
             item = isOwnBlock (o .nextEntry) (o .block .reference);
             is = judge-own start payload e;
             block = ap (λ (r : BlockReference). record { reference = r; position = start } ∷ []) same;
+            holds = ap (λ (r : BlockReference). some r) same;
             digested = subst Digested same (own-digested payload all 0 e);
           }
 
@@ -168,13 +171,15 @@ digested-inserted b (x ∷ bs) d all =
     (order-cases (order (b .reference) (x .reference)))
 
 -- the row of a block joins the store's as it joins the index of the log
-module _ (own : ℕ) (l : List Read) (s : BlockStore) (words : List ℕ) (h : Mirrors own l s words) (digested : AllDigested (references (index l))) (ok : Checked s words) (own-is : s .authority ≡ own) (a : Entry) {r : BlockReference} (holds : Holds a r) (small : r .authority < s .«committee_size») {n : ℕ} (counted : upsertCount words (s .rows) (loadedRow r (a .start)) ≡ Count n) where
-  pub mirrors-block : Mirrors own (l ++ (record { entry = a; item = holds .item } ∷ [])) (storeWith s r n) (upserted words (s .rows) (loadedRow r (a .start)))
+module _ (size own : ℕ) (l : List Read) (s : BlockStore) (words : List ℕ) (h : Mirrors size own l s words) (digested : AllDigested (references (index l))) (ok : Checked s words) (a : Entry) {r : BlockReference} (holds : Holds a r) (small : r .authority < s .«committee_size») {n : ℕ} (counted : upsertCount words (s .rows) (loadedRow r (a .start)) ≡ Count n) where
+  pub mirrors-block : Mirrors size own (l ++ (record { entry = a; item = holds .item } ∷ [])) (storeWith s r n) (upserted words (s .rows) (loadedRow r (a .start)))
   unfolding storeWith indexed indexRows loadedRow
   mirrors-block =
       let x : Read = record { entry = a; item = holds .item } in
       let b : Block = record { reference = r; position = a .start } in
       record {
+        committee = h .committee;
+        authority = h .authority;
         rows =
             ap (map unloadedRow) (rows-upserted words (s .rows) (ok .fits) (ok .ascends) (loadedRow r (a .start)) (length-indexRow r (a .start) 1) counted)
             ∙ put-unloaded (loadedRow r (a .start)) (rowsOf (s .rows) words)
@@ -182,6 +187,6 @@ module _ (own : ℕ) (l : List Read) (s : BlockStore) (words : List ℕ) (h : Mi
             ∙ put-blockRow b (index l) (holds .digested) digested
             ∙ ap (map blockRow) (sym (index-block l x b (holds .block)));
         summary =
-            ap₂ (λ (o : ℕ) (m : StoreSummary). summaryWith o r m) own-is (h .summary)
+            ap₂ (λ (o : ℕ) (m : StoreSummary). summaryWith o r m) (h .authority) (h .summary)
             ∙ sym (summary-joined own l x b (holds .block) (omega (arith, ok .most)));
       }

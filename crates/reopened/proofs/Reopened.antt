@@ -1,5 +1,5 @@
 -- The theorem: whatever calls made a store, recovery of its log gives its index. Assumes nothing.
-use mathlib.Core.Path.{_≡_, refl, sym, ap, _∙_, subst}
+use mathlib.Core.Path.{_≡_, refl, sym, ap, _∙_, subst, ap₂}
 use mathlib.Core.List.{List, [], _∷_, _++_, map}
 use mathlib.Core.Logic.{_⊎_, ⊎-elim}
 use Prim.Native.Nat.{ℕ, zero, suc, _^_, _≤_, _<_}
@@ -15,7 +15,9 @@ use Rattle.rows.specs.Rows.{rowsOf}
 use Rattle.index.specs.Keys.{AllBytes}
 use Rattle.replay.specs.Items.{Read}
 use Rattle.replay.specs.Rules.{gather, Block, blocks, setOf, index}
-use Rattle.replay.specs.Recovery.{Lent, Recovery, recover, recovered, committeeCheck}
+use mathlib.Core.Option.{some}
+use Rattle.state.specs.Holding.{blockNumber}
+use Rattle.replay.specs.Recovery.{blockCheck, replayed, Lent, Recovery, recover, recovered, committeeCheck}
 use Rattle.replay.specs.Recovery as replay
 use Rattle.replay.proofs.Applied.{references, index-block}
 use Rattle.state.specs.Tables.{blockRow, lentOf, summaryOf, blocksOf, replayOf, emptyReplay}
@@ -40,10 +42,11 @@ use Rattle.cut.proofs.Appending.{Holding, empty, run, same-answer}
 use Rattle.cut.proofs.Demand3.{demand-3}
 use Rattle.cut.proofs.Kept.{one-more}
 use Rattle.cut.proofs.Layouts.{Laid, laid-none, laid-next, last-ahead, LaidLog, laid-empty, laid-log}
-use Rattle.reopened.specs.Reopened.{Made, new, appends, inserts, cleans, looks, opens, unloadedRow, Mirrors, Reopened}
+use Rattle.reopened.specs.Reopened.{Made, new, appends, inserts, cleans, looks, opens, unloadedRow, Mirrors, Reopened, Refusals}
 use Rattle.reopened.proofs.Judging.{readOf, readsOf, read-judged, reads-one, replay-reads}
 use Rattle.reopened.proofs.Rows.{blocks-unloaded, table-blocks, cleaned-rows}
 use Rattle.reopened.proofs.Mirroring.{no-block-read, insert-holds, digested-inserted, mirrors-block}
+use Rattle.reopened.proofs.Refusing.{AllFine, number-checked, fine-other, fine-inserted, fine-one, committee-refused, replay-refused}
 
 -- ---- One append more
 
@@ -92,9 +95,9 @@ module _ (k : ℕ) (least : 6 ≤ k) (most : k ≤ 28) (size own : ℕ) (image :
   record Carries (done : List Append) (log : Store) (s : BlockStore) (words : List ℕ) : Type 0 where
     tags : Tags done
     log-is : log ≡ after k (record { used = 0; image = image }) done
-    own-is : s .authority ≡ own
-    mirrors : Mirrors own (readsOf (entriesOf done)) s words
+    mirrors : Mirrors size own (readsOf (entriesOf done)) s words
     digested : AllDigested (references (index (readsOf (entriesOf done))))
+    fine : AllFine size own [] (entriesOf done)
 
   holding : (done : List Append) → Holding (length image) (finalLog k image done) (after k (record { used = 0; image = image }) done)
   holding done = run k least most (length image) noEntries (record { used = 0; image = image }) done (empty image)
@@ -123,9 +126,9 @@ module _ (k : ℕ) (least : 6 ≤ k) (most : k ≤ 28) (size own : ℕ) (image :
 
   -- a store as recovery leaves it, of the entries l
   mirrors-opened : (l : List Read) (words : List ℕ) → rowsOf (length (index l)) words ≡ map blockRow (index l)
-      → Mirrors own l (openedOf size own (replayOf own l)) words
+      → Mirrors size own l (openedOf size own (replayOf own l)) words
   unfolding openedOf replayOf blocksOf indexed indexRows
-  mirrors-opened l words h = record { rows = ap (map unloadedRow) h ∙ blocks-unloaded (index l); summary = refl }
+  mirrors-opened l words h = record { committee = refl; authority = refl; rows = ap (map unloadedRow) h ∙ blocks-unloaded (index l); summary = refl }
 
   nothing-read : readsOf (entriesOf []) ≡ []
   unfolding plainLog noEntries readsOf gather
@@ -139,9 +142,9 @@ module _ (k : ℕ) (least : 6 ≤ k) (most : k ≤ 28) (size own : ℕ) (image :
   unfolding index blocks gather setOf
   none-digested = tt
 
-  opened-own : (r : Replay) → openedOf size own r .authority ≡ own
-  unfolding openedOf
-  opened-own r = refl
+  none-fine : AllFine size own [] (entriesOf [])
+  unfolding plainLog noEntries
+  none-fine = tt
 
   carries-new : (words : List ℕ) → Carries [] (record { used = 0; image = image }) (openedOf size own emptyReplay) words
   unfolding after openedOf
@@ -149,11 +152,11 @@ module _ (k : ℕ) (least : 6 ≤ k) (most : k ≤ 28) (size own : ℕ) (image :
       record {
         tags = tt;
         log-is = refl;
-        own-is = refl;
         mirrors =
-            subst (λ (l : List Read). Mirrors own l (openedOf size own emptyReplay) words) (sym nothing-read)
-            (subst (λ (r : Replay). Mirrors own [] (openedOf size own r) words) (replay-empty own) (mirrors-opened [] words (no-rows words)));
+            subst (λ (l : List Read). Mirrors size own l (openedOf size own emptyReplay) words) (sym nothing-read)
+            (subst (λ (r : Replay). Mirrors size own [] (openedOf size own r) words) (replay-empty own) (mirrors-opened [] words (no-rows words)));
         digested = subst (λ (l : List Read). AllDigested (references (index l))) (sym nothing-read) none-digested;
+        fine = none-fine;
       }
 
   carries-append : {done : List Append} {log : Store} {s : BlockStore} {words : List ℕ} → Carries done log s words
@@ -164,13 +167,15 @@ module _ (k : ℕ) (least : 6 ≤ k) (most : k ≤ 28) (size own : ℕ) (image :
       record {
         tags = tags-one done a (h .tags) small;
         log-is = ap (λ (st : Store). next k st a) (h .log-is) ∙ sym (after-one k (record { used = 0; image = image }) done a);
-        own-is = h .own-is;
         mirrors =
             record {
+              committee = h .mirrors .committee;
+              authority = h .mirrors .authority;
               rows = h .mirrors .rows ∙ sym (ap (map blockRow) (same .0));
               summary = h .mirrors .summary ∙ sym (same .1);
             };
         digested = subst (λ (bs : List Block). AllDigested (references bs)) (sym (same .0)) (h .digested);
+        fine = still (answerOf k (after k (record { used = 0; image = image }) done) a) refl;
       }
     where
       l : List Read
@@ -187,11 +192,18 @@ module _ (k : ℕ) (least : 6 ≤ k) (most : k ≤ 28) (size own : ℕ) (image :
           let whole : readsOf (entriesOf (done ++ (a ∷ []))) ≡ l = ap readsOf (entries-refused done a is) in
           (ap index whole, ap (summaryOf own) whole)
 
+      still : (p : Placed) → answerOf k (after k (record { used = 0; image = image }) done) a ≡ p → AllFine size own [] (entriesOf (done ++ (a ∷ [])))
+      still (accepted start) is =
+          let e : Entry = record { start = start; tag = a .tag; payload = a .payload } in
+          subst (AllFine size own []) (sym (entries-accepted done a is))
+          (fine-one size own [] (entriesOf done) e (h .fine) (fine-other e one three size own l))
+      still (refused n) is = subst (AllFine size own []) (sym (entries-refused done a is)) (h .fine)
+
   carries-insert : {done : List Append} {log : Store} {s : BlockStore} {words : List ℕ} → Carries done log s words
       → (tag : ℕ) (payload : List ℕ) → (tag ≡ 1) ⊎ (tag ≡ 3) → AllBytes payload → (r : Inserted) (image′ words′ : List ℕ)
       → Inserts (record { exponent = k; used = log .used }) s tag payload (log .image) words r image′ words′ → r .number ≡ 0
       → Carries (done ++ (record { tag = tag; payload = payload } ∷ [])) (record { used = r .writer .used; image = image′ }) (r .store) words′
-  unfolding insertedOf imageWith indexWith storeWith next answerOf usedAfter
+  unfolding insertedOf imageWith indexWith storeWith next answerOf usedAfter indexed
   carries-insert {done} {log} {s} {words} h tag payload which all r image′ words′ ins number =
       let a : Append = record { tag = tag; payload = payload } in
       let w : WalWriter = record { exponent = k; used = log .used } in
@@ -216,7 +228,11 @@ module _ (k : ℕ) (least : 6 ≤ k) (most : k ≤ 28) (size own : ℕ) (image :
       ins .log ∙ ap (λ (x : Insertion). imageWith x w (log .image) tag payload) (put .is) in
       let small : put .reference .authority < s .«committee_size» =
       number-below (s .«committee_size») (s .authority) (rowsOf (s .rows) words) (put .reference) refl (passed .block) in
-      let mirrored = mirrors-block own l s words (h .mirrors) (h .digested) checked (h .own-is) e held small (passed .counted) in
+      let checks : blockCheck size own (blocks l) (some (put .reference)) ≡ 0 =
+      sym (number-checked size own (rowsOf (s .rows) words) l (put .reference) (h .mirrors .rows))
+      ∙ ap₂ (λ (n o : ℕ). blockNumber n o (rowsOf (s .rows) words) (put .reference)) (sym (h .mirrors .committee)) (sym (h .mirrors .authority))
+      ∙ passed .block in
+      let mirrored = mirrors-block size own l s words (h .mirrors) (h .digested) checked e held small (passed .counted) in
       let stepped : record { used = r .writer .used; image = image′ } ≡ next k log a =
       (λ i. record { used = answer i .writer .used; image = bytes i }) ∙ sym (ap (λ (p : Placed). record { used = usedAfter p (log .used) (length payload); image = imageAfter p (log .used) (log .image) tag payload }) (passed .placed)) in
       record {
@@ -225,15 +241,17 @@ module _ (k : ℕ) (least : 6 ≤ k) (most : k ≤ 28) (size own : ℕ) (image :
             stepped
             ∙ ap (λ (st : Store). next k st a) (h .log-is)
             ∙ sym (after-one k (record { used = 0; image = image }) done a);
-        own-is = ap (λ (r : Inserted). r .store .authority) answer ∙ h .own-is;
         mirrors =
-            subst (λ (m : List Read). Mirrors own m (r .store) words′) (sym read)
-            (subst (λ (t : BlockStore). Mirrors own (l ++ (y ∷ [])) t words′) (sym (ap (λ (r : Inserted). r .store) answer))
-            (subst (λ (t : List ℕ). Mirrors own (l ++ (y ∷ [])) (storeWith s (put .reference) (put .rows)) t) (sym rows) mirrored));
+            subst (λ (m : List Read). Mirrors size own m (r .store) words′) (sym read)
+            (subst (λ (t : BlockStore). Mirrors size own (l ++ (y ∷ [])) t words′) (sym (ap (λ (r : Inserted). r .store) answer))
+            (subst (λ (t : List ℕ). Mirrors size own (l ++ (y ∷ [])) (storeWith s (put .reference) (put .rows)) t) (sym rows) mirrored));
         digested =
             subst (λ (m : List Read). AllDigested (references (index m))) (sym read)
             (subst (λ (bs : List Block). AllDigested (references bs)) (sym (index-block l y (record { reference = put .reference; position = put .start }) (held .block)))
             (digested-inserted (record { reference = put .reference; position = put .start }) (index l) (held .digested) (h .digested)));
+        fine =
+            subst (AllFine size own []) (sym (entries-accepted done a placed))
+            (fine-one size own [] (entriesOf done) e (h .fine) (fine-inserted size own l e held checks));
       }
 
   carries-clean : {done : List Append} {log : Store} {s : BlockStore} {words : List ℕ} → Carries done log s words
@@ -243,9 +261,10 @@ module _ (k : ℕ) (least : 6 ≤ k) (most : k ≤ 28) (size own : ℕ) (image :
       record {
         tags = h .tags;
         log-is = h .log-is;
-        own-is = h .own-is;
         mirrors =
             record {
+              committee = h .mirrors .committee;
+              authority = h .mirrors .authority;
               rows =
                   cleaned-rows (callCheck k (log .used) (length (log .image)) s words) t (s .rows) words
                   (λ passed. call-checked k (log .used) (length (log .image)) s words refl passed .fits)
@@ -253,6 +272,7 @@ module _ (k : ℕ) (least : 6 ≤ k) (most : k ≤ 28) (size own : ℕ) (image :
               summary = h .mirrors .summary;
             };
         digested = h .digested;
+        fine = h .fine;
       }
 
   carries-look : {done : List Append} {log : Store} {s : BlockStore} {words : List ℕ} → Carries done log s words
@@ -262,17 +282,23 @@ module _ (k : ℕ) (least : 6 ≤ k) (most : k ≤ 28) (size own : ℕ) (image :
       record {
         tags = h .tags;
         log-is = h .log-is;
-        own-is = h .own-is;
-        mirrors = record { rows = h .mirrors .rows; summary = h .mirrors .summary };
+        mirrors =
+            record { committee = h .mirrors .committee; authority = h .mirrors .authority; rows = h .mirrors .rows; summary = h .mirrors .summary };
         digested = h .digested;
+        fine = h .fine;
       }
 
-  -- what recovery of the log reads
-  recovered-reads : {done : List Append} {log : Store} {s : BlockStore} {words : List ℕ} → Carries done log s words
-      → (lent : Lent) {word : Stop} {e : ℕ} {l : List Read} → recover k (log .image) (log .used) size own lent ≡ recovered word e l
-      → l ≡ readsOf (entriesOf done)
+  -- Recovery of the log is the replay of its entries, up to its end.
+  record Replays (done : List Append) (log : Store) (lent : Lent) : Type 0 where
+    word : Stop
+    end : ℕ
+    is : recover k (log .image) (log .used) size own lent
+        ≡ unless (committeeCheck size own) (λ n. replay.Recovery.refused n 0)
+        (replayed size own lent (record { entries = entriesOf done; ending = stopped word end }))
+
+  replays : {done : List Append} {log : Store} {s : BlockStore} {words : List ℕ} → Carries done log s words → (lent : Lent) → Replays done log lent
   unfolding ruled
-  recovered-reads {done} {log} {s} {words} h lent {word} {e} {l} is =
+  replays {done} {log} {s} {words} h lent =
       let st : Store = after k (record { used = 0; image = image }) done in
       let plain : Log = finalLog k image done in
       let held : Holding (length image) plain st = holding done in
@@ -282,13 +308,24 @@ module _ (k : ℕ) (least : 6 ≤ k) (most : k ≤ 28) (size own : ℕ) (image :
       let holds : Holds plain (plain .end) (st .image) =
       record { room = omega (arith, held .fits, held .room); same = held .bytes ∙ sym whole } in
       let back = d .recovering (plain .end) (st .image) (omega arith) holds in
-      let here : recover k (st .image) (plain .end) size own lent ≡ recovered word e l =
-      ap (λ (n : ℕ). recover k (st .image) n size own lent) (sym (held .used))
-      ∙ ap (λ (st : Store). recover k (st .image) (st .used) size own lent) (sym (h .log-is))
-      ∙ is in
-      let replays = committee-passed (committeeCheck size own) _ (sym (back .recovers size own lent) ∙ here) in
-      replay-reads size own lent (record { entries = kept plain (plain .end); ending = stopped (back .word) (resumeAt plain (plain .end)) }) replays
-      ∙ ap readsOf (all-kept k plain (laid-log k (length image) noEntries done (h .tags) (laid-empty k)))
+      record {
+        word = back .word;
+        end = resumeAt plain (plain .end);
+        is =
+            ap (λ (st : Store). recover k (st .image) (st .used) size own lent) (h .log-is)
+            ∙ ap (λ (n : ℕ). recover k (st .image) n size own lent) (held .used)
+            ∙ back .recovers size own lent
+            ∙ ap (λ (es : List Entry). unless (committeeCheck size own) (λ n. replay.Recovery.refused n 0) (replayed size own lent (record { entries = es; ending = stopped (back .word) (resumeAt plain (plain .end)) })))
+            (all-kept k plain (laid-log k (length image) noEntries done (h .tags) (laid-empty k)));
+      }
+
+  recovered-reads : {done : List Append} {log : Store} {s : BlockStore} {words : List ℕ} → Carries done log s words
+      → (lent : Lent) {word : Stop} {e : ℕ} {l : List Read} → recover k (log .image) (log .used) size own lent ≡ recovered word e l
+      → l ≡ readsOf (entriesOf done)
+  recovered-reads {done} h lent is =
+      let r = replays h lent in
+      replay-reads size own lent (record { entries = entriesOf done; ending = stopped (r .word) (r .end) })
+      (committee-passed (committeeCheck size own) _ (sym (r .is) ∙ is))
 
   carries-open : {done : List Append} {log : Store} {s : BlockStore} {words : List ℕ} → Carries done log s words
       → (p u c i p′ u′ c′ i′ : List ℕ) (r : Recovered) (word : Stop) (e : ℕ) (l : List Read)
@@ -304,11 +341,11 @@ module _ (k : ℕ) (least : 6 ≤ k) (most : k ≤ 28) (size own : ℕ) (image :
       record {
         tags = h .tags;
         log-is = h .log-is;
-        own-is = opened-own (r .replay);
         mirrors =
-            subst (λ (m : List Read). Mirrors own m (openedOf size own (r .replay)) i′) read
-            (subst (λ (t : Replay). Mirrors own l (openedOf size own t) i′) (sym replay) (mirrors-opened l i′ rows));
+            subst (λ (m : List Read). Mirrors size own m (openedOf size own (r .replay)) i′) read
+            (subst (λ (t : Replay). Mirrors size own l (openedOf size own t) i′) (sym replay) (mirrors-opened l i′ rows));
         digested = h .digested;
+        fine = h .fine;
       }
 
   carries : {done : List Append} {log : Store} {s : BlockStore} {words : List ℕ} → Made k size own image done log s words → Carries done log s words
@@ -322,4 +359,11 @@ module _ (k : ℕ) (least : 6 ≤ k) (most : k ≤ 28) (size own : ℕ) (image :
 pub reopened : Reopened
 reopened k least most size own image done log s words made lent word e l is =
     let h : Carries k least most size own image done log s words = carries k least most size own image made in
-    subst (λ (m : List Read). Mirrors own m s words) (sym (recovered-reads k least most size own image h lent is)) (h .mirrors)
+    subst (λ (m : List Read). Mirrors size own m s words) (sym (recovered-reads k least most size own image h lent is)) (h .mirrors)
+
+pub refusals : Refusals
+refusals k least most size own image done log s words made lent n p is =
+    let h : Carries k least most size own image done log s words = carries k least most size own image made in
+    let r = replays k least most size own image h lent in
+    committee-refused size own _ (sym (r .is) ∙ is)
+    (λ here. replay-refused size own lent (finalLog k image done .entries) (h .fine) (r .word) (r .end) here)

@@ -5,6 +5,7 @@ use mathlib.Core.Logic.{⊎-elim}
 use Prim.Native.Nat.{ℕ, zero, suc, _+_, _-_, _*_, _≤_}
 use native.Mathlib.Omega.{arith}
 use lib.ListN.{length, take, drop, set, getD, length-set, length-map}
+use lib.Seq.{set-set, take-set-le}
 use Rattle.laws.specs.Pick.{pick}
 use Rattle.laws.specs.Bytes.{written, zeros}
 use Rattle.laws.proofs.Tests.{leb-cases, eqb-cases}
@@ -69,21 +70,10 @@ module _ (t : List ℕ) (count : ℕ) (fits : 8 * count ≤ length t) (ascends :
 
 -- ---- Flags aside
 
-take-set : (n i v : ℕ) (r : List ℕ) → n ≤ i → take n (set r i v) ≡ take n r
-take-set zero i v r h = refl
-take-set (suc n) i v [] h = refl
-take-set (suc n) zero v (x ∷ r) h = absurd (omega arith)
-take-set (suc n) (suc i) v (x ∷ r) h = ap (λ (l : List ℕ). x ∷ l) (take-set n i v r (omega arith))
-
 -- a row's key does not tell whether it is loaded
 pub key-unloaded : (r : List ℕ) → key (unloadedRow r) ≡ key r
 unfolding key unloadedRow
-key-unloaded r = take-set 6 7 0 r (omega arith)
-
-set-twice : (i v w : ℕ) (r : List ℕ) → set (set r i v) i w ≡ set r i w
-set-twice i v w [] = refl
-set-twice zero v w (x ∷ r) = refl
-set-twice (suc i) v w (x ∷ r) = ap (λ (l : List ℕ). x ∷ l) (set-twice i v w r)
+key-unloaded r = take-set-le 6 r 7 0 (omega arith)
 
 pub put-unloaded : (row : List ℕ) (rows : List (List ℕ)) → map unloadedRow (putRow row rows) ≡ putRow (unloadedRow row) (map unloadedRow rows)
 unfolding putRow
@@ -135,7 +125,7 @@ table-blocks n bs =
 
 unload-unloaded : (t : ℕ) (r : List ℕ) → unloadedRow (unload t r) ≡ unloadedRow r
 unfolding unloadedRow unload pick
-unload-unloaded t r = ⊎-elim (λ y. rw (y .0) (set-twice 7 0 0 r)) (λ n. rw (n .0)) (leb-cases (getD r 0 0) t)
+unload-unloaded t r = ⊎-elim (λ y. rw (y .0) (set-set r 7 0 0)) (λ n. rw (n .0)) (leb-cases (getD r 0 0) t)
 
 pub unloads-unloaded : (t : ℕ) (rows : List (List ℕ)) → map unloadedRow (map (unload t) rows) ≡ map unloadedRow rows
 unloads-unloaded t [] = refl

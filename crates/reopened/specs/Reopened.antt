@@ -1,4 +1,6 @@
--- A store and its log say the same: whatever calls made them, the index that recovery of the log gives is the store's, loaded flags aside.
+-- A store and its log say the same: whatever calls made them, the index that recovery of the log gives is the store's, loaded flags and
+-- loads aside. What a cut leaves of the log, and what recovery gives then, is for the crate cut to say; a node that starts from there
+-- starts a history of its own here, with what it appends again.
 -- Document 01: "Insert (a block's bytes .. logged and indexed)"; "Index: reference to latest position, all unloaded".
 use mathlib.Core.Path.{_≡_}
 use mathlib.Core.Logic.{_⊎_}
@@ -7,7 +9,7 @@ use Prim.Native.Nat.{ℕ, _^_, _≤_, _<_}
 use lib.ListN.{set}
 use Rattle.index.specs.Keys.{AllBytes}
 use Rattle.replay.specs.Items.{Read}
-use Rattle.replay.specs.Recovery.{Lent, recover, recovered}
+use Rattle.replay.specs.Recovery.{Lent, recover, refused, recovered}
 use Rattle.wal.specs.Walk.{Stop}
 use Rattle.state.specs.Tables.{lentOf, emptyReplay, summaryOf}
 use Rattle.recovery.specs.declared.Recovered.{Recovered}
@@ -20,12 +22,13 @@ use Rattle.insert.specs.Insert.{Inserts}
 use Rattle.cut.specs.PlainLog.{Append}
 use Rattle.cut.specs.Cut.{Store, next}
 
--- The stores that the calls make, on a log that began empty in an image of whatever bytes: what was appended to it, the log, the store and
--- its index. A refused call changes nothing, so that it makes no other store.
+-- The stores that the calls make in one image, on a log that began empty in it, whatever its bytes: what was appended, the log, the store
+-- and its index. A refused append, insert, cleanup or lookup changes nothing, and a refused recovery makes no store.
 pub data Made (k size own : ℕ) (image : List ℕ) : List Append → Store → BlockStore → List ℕ → Type 0 where
   -- no block yet, in index rows of whatever words
   new : (index : List ℕ) → Made k size own image [] (record { used = 0; image = image }) (openedOf size own emptyReplay) index
-  -- an append of something else than a block: "every 32-bit tag" but those of an insert
+  -- an append, accepted or not, of something else than a block: "every 32-bit tag" but the two that insert logs. A tag that recovery
+  -- refuses leaves nothing to compare.
   appends : {done : List Append} {log : Store} {s : BlockStore} {index : List ℕ} → Made k size own image done log s index
       → (a : Append) → a .tag < 2 ^ 32 → (a .tag ≡ 1 → ⊥) → (a .tag ≡ 3 → ⊥)
       → Made k size own image (done ++ (a ∷ [])) (next k log a) s index
@@ -51,8 +54,10 @@ pub data Made (k size own : ℕ) (image : List ℕ) : List Append → Store → 
 unfoldable pub unloadedRow : List ℕ → List ℕ
 unloadedRow r = set r 7 0
 
--- the store's references, positions and summary are those of the entries l
-pub record Mirrors (own : ℕ) (l : List Read) (s : BlockStore) (index : List ℕ) : Type 0 where
+-- the store is of this committee and own authority, and its references, positions and summary are those of the entries l
+pub record Mirrors (size own : ℕ) (l : List Read) (s : BlockStore) (index : List ℕ) : Type 0 where
+  pub committee : s .«committee_size» ≡ size
+  pub authority : s .authority ≡ own
   pub rows : map unloadedRow (indexed s index) ≡ indexRows l
   pub summary : s .summary ≡ summaryOf own l
 
@@ -61,4 +66,15 @@ abbrev pub Reopened : Type 0
 Reopened =
     (k : ℕ) → 6 ≤ k → k ≤ 28 → (size own : ℕ) (image : List ℕ) (done : List Append) (log : Store) (s : BlockStore) (index : List ℕ)
     → Made k size own image done log s index → (lent : Lent) (word : Stop) (e : ℕ) (l : List Read)
-    → recover k (log .image) (log .used) size own lent ≡ recovered word e l → Mirrors own l s index
+    → recover k (log .image) (log .used) size own lent ≡ recovered word e l → Mirrors size own l s index
+
+-- What such a recovery can be refused for: a tag (8), a pending payload (11) or a commit (12) that was appended, tables with too few rows
+-- (15), or the committee (18). The store's own blocks are not refused again, and the log is not damaged.
+abbrev pub RefusedFor : ℕ → Type 0
+RefusedFor n = (n ≡ 8) ⊎ ((n ≡ 11) ⊎ ((n ≡ 12) ⊎ ((n ≡ 15) ⊎ (n ≡ 18))))
+
+abbrev pub Refusals : Type 0
+Refusals =
+    (k : ℕ) → 6 ≤ k → k ≤ 28 → (size own : ℕ) (image : List ℕ) (done : List Append) (log : Store) (s : BlockStore) (index : List ℕ)
+    → Made k size own image done log s index → (lent : Lent) (n p : ℕ)
+    → recover k (log .image) (log .used) size own lent ≡ refused n p → RefusedFor n

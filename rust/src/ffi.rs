@@ -22,7 +22,6 @@ mod c {
         pub fn kadzhomir_get_own_blocks(k: u64, image: *const u8, image_len: usize, used: u64, store: *mut u64, store_len: usize, index: *const u64, index_len: usize, from_excluded: u64, limit: usize, out: *mut u64, out_len: usize, answer: *mut u64, answer_len: usize) -> u8;
         pub fn kadzhomir_get_others_blocks(k: u64, image: *const u8, image_len: usize, used: u64, store: *mut u64, store_len: usize, index: *const u64, index_len: usize, from_excluded: u64, authority: u64, limit: usize, out: *mut u64, out_len: usize, answer: *mut u64, answer_len: usize) -> u8;
         pub fn kadzhomir_get_transaction(k: u64, image: *const u8, image_len: usize, used: u64, store: *mut u64, store_len: usize, index: *const u64, index_len: usize, reference: *const u64, reference_len: usize, offset: u64, answer: *mut u64, answer_len: usize) -> u8;
-        #[cfg(feature = "linked")]
         pub fn kadzhomir_linked(k: u64, image: *const u8, image_len: usize, used: u64, store: *mut u64, store_len: usize, index: *const u64, index_len: usize, later: *const u8, later_len: usize, earlier: *const u64, earlier_len: usize, work: *mut u64, work_len: usize, answer: *mut u64, answer_len: usize) -> u8;
         pub fn kadzhomir_decode_block(bytes: *const u8, bytes_len: usize, at: usize, answer: *mut u64, answer_len: usize) -> u8;
         pub fn kadzhomir_include_at(bytes: *const u8, bytes_len: usize, place: usize, i: usize, answer: *mut u64, answer_len: usize) -> u8;
@@ -176,7 +175,6 @@ pub fn get_transaction(v: View, lent: Lent, reference: &[u64], offset: u64, answ
     }
 }
 
-#[cfg(feature = "linked")]
 pub fn linked(v: View, lent: Lent, later: &[u8], earlier: &[u64], work: &mut [u64], answer: &mut [u64]) -> u8 {
     let (s, i) = (lent.store, lent.index);
     unsafe {

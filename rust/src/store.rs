@@ -211,7 +211,6 @@ impl BlockStore {
     }
 
     /// Whether `earlier` is an ancestor of the block whose bytes are `later`.
-    #[cfg(feature = "linked")]
     pub fn linked<B: AsRef<[u8]>>(&mut self, log: &Log<B>, later: &[u8], earlier: &BlockReference) -> Result<bool, Refusal> {
         let mut answer = [0; 2];
         let mut work = vec![0; self.len_expensive() * ROW];

@@ -1,5 +1,4 @@
 //! Ancestors: a chain of includes, one round a step, through indexed blocks.
-#![cfg(feature = "linked")]
 use kadzhomir::{Block, BlockReference, BlockStore, Log, Refusal};
 
 fn reference(authority: u64, round: u64) -> BlockReference {

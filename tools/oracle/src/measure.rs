@@ -265,7 +265,6 @@ fn lookups(log: &Log<Vec<u8>>, n: u64) {
 }
 
 /// An ancestor five rounds below.
-#[cfg(feature = "linked")]
 fn linked(log: &Log<Vec<u8>>, n: u64, rust: &BlockStore, port: &mut kadzhomir::BlockStore) {
     let (later, earlier) = (block(n - 1), block(n - 1 - 5 * AUTHORITIES));
     let earlier_reference = port_reference(earlier.reference());
@@ -275,9 +274,6 @@ fn linked(log: &Log<Vec<u8>>, n: u64, rust: &BlockStore, port: &mut kadzhomir::B
         (rust, time(times, || drop(black_box(port.linked(log, later.serialized_bytes(), &earlier_reference).unwrap()))))
     });
 }
-
-#[cfg(not(feature = "linked"))]
-fn linked(_: &Log<Vec<u8>>, _: u64, _: &BlockStore, _: &mut kadzhomir::BlockStore) {}
 
 // ---- Counting instructions
 

@@ -106,17 +106,11 @@ impl Stores {
         self.same_loads(t);
     }
 
-    #[cfg(feature = "linked")]
     pub fn ask_linked(&mut self, t: &mut Tally, logs: &Logs, later: &Data<StatementBlock>, earlier: &Data<StatementBlock>) {
         let rust = self.rust.linked(later, earlier);
         let port = self.port.linked(&logs.port, later.serialized_bytes(), &reference(earlier.reference()));
         t.same(if rust { "linked: yes" } else { "linked: no" }, Ok(rust), port);
         self.same_loads(t);
-    }
-
-    #[cfg(not(feature = "linked"))]
-    pub fn ask_linked(&mut self, t: &mut Tally, _: &Logs, _: &Data<StatementBlock>, _: &Data<StatementBlock>) {
-        t.leave_out("linked");
     }
 
     pub fn cleanup(&mut self, t: &mut Tally, logs: &Logs, threshold: u64) {

@@ -6,7 +6,7 @@ ghost use mathlib.Core.List.{_++_};
 ghost use Prim.Native.Nat.{_+_, _-_, _*_, _≤_};
 ghost use lib.ListN.{length};
 ghost use Rattle.laws.specs.Bytes.{bytesAt, written, zeros};
-ghost use Rattle.rows.specs.Rows.{rowsOf, rowAt, key, compared, Ascending, ascendingb, placeOf, leadingBelow};
+ghost use Rattle.rows.specs.Rows.{rowsOf, rowAt, key, compared, Ascending, placeOf, leadingBelow};
 ghost use Rattle.rows.specs.Tables.{roomy, pushed, dropped, upserted, upsertCount};
 
 // Where one key stands to another.
@@ -166,22 +166,6 @@ pub fn key_at(t: &[u64], i: usize) -> [u64; 6]
 {
     let at = 8 * i;
     [t[at], t[at + 1], t[at + 2], t[at + 3], t[at + 4], t[at + 5]]
-}
-
-// Whether each key is strictly below the next.
-pub fn check_ascending(t: &[u64], count: usize) -> bool
-    requires { ⌜ 8 * count ≤ length (now t) ⌝ }
-    ensures { λ r. ⌜ r ≡ ascendingb (rowsOf count (now (t .entry))) ⌝ }
-{
-    let mut i = 0;
-    while i + 1 < count {
-        match compare_key(t, i, key_at(t, i + 1)) {
-            Order::Below => i += 1,
-            Order::Equal => return false,
-            Order::Above => return false,
-        }
-    }
-    true
 }
 
 // The index of the first row whose first word is at least p, or the count where there is none.

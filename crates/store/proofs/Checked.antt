@@ -1,5 +1,5 @@
 -- What the checks of a lent store and of a call let pass, and which number each gives. Assumes nothing.
-use mathlib.Core.Path.{_≡_, refl, sym, _∙_}
+use mathlib.Core.Path.{_≡_, refl, sym, ap, _∙_}
 use mathlib.Core.Bool.{Bool, true, false}
 use mathlib.Core.List.{List}
 use Prim.Native.Nat.{ℕ, zero, suc, _*_, _/_, _≤_, _<_}
@@ -74,6 +74,12 @@ module _ (k used size : ℕ) (s : BlockStore) (index : List ℕ) {r : ℕ} (is :
 
 -- ---- The numbers
 
+-- two tests, one behind the other or both at once
+both-tests : (t u : Bool) → _≡_ {A = ℕ} (pick t (pick u 0 18) 18) (pick (pick t u false) 0 18)
+unfolding pick
+both-tests true u = refl
+both-tests false u = refl
+
 module _ (s : BlockStore) (index : List ℕ) where
   pub committee-refused : (committeeCheck (s .«committee_size») (s .authority) ≡ 0 → ⊥)
       → committeeCheck (s .«committee_size») (s .authority) ≡ storeCheck s index
@@ -93,18 +99,28 @@ module _ (s : BlockStore) (index : List ℕ) where
     rows-refused h = sym (goes-on ∙ rw (lt-leb (s .rows) (length index / 8) h))
 
     module _ (fits : s .rows ≤ length index / 8) where
-      pub order-refused : ascendingb (rowsOf (s .rows) index) ≡ false → 18 ≡ storeCheck s index
+      rows-tested : storeCheck s index
+          ≡ pick (pick (ascendingb (rowsOf (s .rows) index)) (authoritiesBelow (s .«committee_size») (rowsOf (s .rows) index)) false) 0 18
       unfolding pick
-      order-refused h = sym (goes-on ∙ rw (le-leb (s .rows) (length index / 8) fits, h))
+      rows-tested =
+          goes-on
+          ∙ rw (le-leb (s .rows) (length index / 8) fits)
+          (both-tests (ascendingb (rowsOf (s .rows) index)) (authoritiesBelow (s .«committee_size») (rowsOf (s .rows) index)))
 
-      module _ (ascends : ascendingb (rowsOf (s .rows) index) ≡ true) where
-        pub authorities-refused : authoritiesBelow (s .«committee_size») (rowsOf (s .rows) index) ≡ false → 18 ≡ storeCheck s index
-        unfolding pick
-        authorities-refused h = sym (goes-on ∙ rw (le-leb (s .rows) (length index / 8) fits, ascends, h))
+      pub order-refused : pick (ascendingb (rowsOf (s .rows) index)) (authoritiesBelow (s .«committee_size») (rowsOf (s .rows) index)) false ≡ false
+          → 18 ≡ storeCheck s index
+      unfolding pick
+      order-refused h = sym (rows-tested ∙ ap (λ (t : Bool). pick t 0 18) h)
 
-        pub store-passed : authoritiesBelow (s .«committee_size») (rowsOf (s .rows) index) ≡ true → 0 ≡ storeCheck s index
-        unfolding pick
-        store-passed h = sym (goes-on ∙ rw (le-leb (s .rows) (length index / 8) fits, ascends, h))
+      pub order-passed : pick (ascendingb (rowsOf (s .rows) index)) (authoritiesBelow (s .«committee_size») (rowsOf (s .rows) index)) false ≡ true
+          → 0 ≡ storeCheck s index
+      unfolding pick
+      order-passed h = sym (rows-tested ∙ ap (λ (t : Bool). pick t 0 18) h)
+
+      pub store-passed : ascendingb (rowsOf (s .rows) index) ≡ true
+          → authoritiesBelow (s .«committee_size») (rowsOf (s .rows) index) ≡ true → 0 ≡ storeCheck s index
+      unfolding pick
+      store-passed ascends h = order-passed (rw (ascends, h))
 
 module _ (k used size : ℕ) (s : BlockStore) (index : List ℕ) where
   pub log-refused : (logCheck k used size ≡ 0 → ⊥) → logCheck k used size ≡ callCheck k used size s index

@@ -2,13 +2,17 @@
 // read no block, and cleanup. The store is a value; its index rows are lent.
 ghost use mathlib.Core.Path.{_≡_};
 ghost use mathlib.Core.List.{map};
-ghost use Prim.Native.Nat.{_*_, _≤_};
-ghost use lib.ListN.{length};
+ghost use mathlib.Core.Bool.{true, false};
+ghost use Prim.Native.Nat.{_+_, _*_, _≤_};
+ghost use lib.Dec.{leb, ltb};
+ghost use lib.ListN.{length, getD};
 ghost use Rattle.laws.specs.Bytes.{written};
-ghost use Rattle.rows.specs.Rows.{rowsOf, flat, Ascending};
+ghost use Rattle.laws.specs.Pick.{pick};
+ghost use Rattle.rows.specs.Rows.{rowsOf, flat, Ascending, ascendingb};
 ghost use Rattle.store.specs.Store.{authoritiesBelow, storeCheck, callCheck, blockExists, blockExistsAt, allBlocksExistAt, roundThere, allExist, unload, unloads, cleanupAnswer, cleanupIndex, openedOf, lastSeenOf};
 use index::FoundReference;
 use index::StoreSummary;
+use rows::Order;
 use rows::Place;
 use state::Replay;
 use types::AuthorityIndex;
@@ -87,19 +91,35 @@ impl BlockStore {
     }
 }
 
-// Whether each row's authority is below the committee's size.
-fn check_authorities(index: &[u64], count: usize, size: u64) -> bool
+// Whether each key is strictly below the next, and each row's authority below the committee's size. One
+// pass, since every call makes it.
+fn check_rows(index: &[u64], count: usize, size: u64) -> bool
     requires { ⌜ 8 * count ≤ length (now index) ⌝ }
-    ensures { λ r. ⌜ r ≡ authoritiesBelow size (rowsOf count (now (index .entry))) ⌝ }
+    ensures { λ r. ⌜ r ≡ pick (ascendingb (rowsOf count (now (index .entry)))) (authoritiesBelow size (rowsOf count (now (index .entry)))) false ⌝ }
 {
     let mut i = 0;
-    while i < count {
+    while i + 1 < count {
         if size <= index[8 * i + 1] {
             return false;
         }
-        i += 1;
+        match rows::compare_key(index, i, rows::key_at(index, i + 1)) {
+            Order::Below => i += 1,
+            Order::Equal => return false,
+            Order::Above => return false,
+        }
     }
-    true
+    check_last(index, count, i, size)
+}
+
+// The authority of row i, if there is such a row.
+fn check_last(index: &[u64], count: usize, i: usize, size: u64) -> bool
+    requires { ⌜ 8 * count ≤ length (now index) ⌝ }
+    ensures { λ r. ⌜ r ≡ pick (leb count i) true (ltb (getD (now (index .entry)) (8 * i + 1) 0) size) ⌝ }
+{
+    if count <= i {
+        return true;
+    }
+    index[8 * i + 1] < size
 }
 
 // The check 18 of a lent store: 0, or the refusal's number.
@@ -113,10 +133,7 @@ pub fn check_store(store: BlockStore, index: &[u64]) -> u8
     if index.len() / 8 < store.rows {
         return 18;
     }
-    if !rows::check_ascending(index, store.rows) {
-        return 18;
-    }
-    if !check_authorities(index, store.rows, store.committee_size) {
+    if !check_rows(index, store.rows, store.committee_size) {
         return 18;
     }
     0

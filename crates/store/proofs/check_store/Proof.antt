@@ -2,7 +2,7 @@
 use mathlib.Core.Path.{sym, _∙_}
 use borrow.Author.Needs.{needs}
 use borrow.Author.Tests.{not-true, not-false}
-use Rattle.store.proofs.Checked.{committee-refused, rows-refused, order-refused, authorities-refused, store-passed}
+use Rattle.store.proofs.Checked.{committee-refused, rows-refused, order-refused, order-passed}
 use Rattle.store.proofs.check_store.Statement.{statement}
 use Rattle.store.proofs.check_store.Tie as tie
 
@@ -21,39 +21,22 @@ returns-2 c =
     let committee = sym (c .before .before .before .check-committee .ensures) ∙ c .before .before .if1 .left in
     rows-refused (a .store) (a .index .now) committee (c .if2 .taken)
 
-check-ascending-requires : tie.Need-check-ascending-requires
-check-ascending-requires c κs = search needs
+check-rows-requires : tie.Need-check-rows-requires
+check-rows-requires c κs = search needs
 
 returns-3 : tie.Need-returns-3
 returns-3 c =
     let a = c .before .before .before .before .before .before .before .args in
     let committee = sym (c .before .before .before .before .before .check-committee .ensures) ∙ c .before .before .before .before .if1 .left in
-    order-refused (a .store) (a .index .now) committee (c .before .before .if2 .left) (sym (c .before .check-ascending .ensures) ∙ not-true (c .before .check-ascending .result) (c .if3 .taken))
-
-check-authorities-requires : tie.Need-check-authorities-requires
-check-authorities-requires c κs = search needs
+    order-refused (a .store) (a .index .now) committee (c .before .before .if2 .left) (sym (c .before .check-rows .ensures) ∙ not-true (c .before .check-rows .result) (c .if3 .taken))
 
 returns-4 : tie.Need-returns-4
 returns-4 c =
-    let a = c .before .before .before .before .before .before .before .before .before .args in
-    let committee = sym (c .before .before .before .before .before .before .before .check-committee .ensures) ∙ c .before .before .before .before .before .before .if1 .left in
-    authorities-refused (a .store) (a .index .now) committee (c .before .before .before .before .if2 .left) (sym (c .before .before .before .check-ascending .ensures) ∙ not-false (c .before .before .before .check-ascending .result) (c .before .before .if3 .left)) (sym (c .before .check-authorities .ensures) ∙ not-true (c .before .check-authorities .result) (c .if4 .taken))
-
-returns-5 : tie.Need-returns-5
-returns-5 c =
-    let a = c .before .before .before .before .before .before .before .before .before .args in
-    let committee = sym (c .before .before .before .before .before .before .before .check-committee .ensures) ∙ c .before .before .before .before .before .before .if1 .left in
-    store-passed (a .store) (a .index .now) committee (c .before .before .before .before .if2 .left) (sym (c .before .before .before .check-ascending .ensures) ∙ not-false (c .before .before .before .check-ascending .result) (c .before .before .if3 .left)) (sym (c .before .check-authorities .ensures) ∙ not-false (c .before .check-authorities .result) (c .if4 .left))
+    let a = c .before .before .before .before .before .before .before .args in
+    let committee = sym (c .before .before .before .before .before .check-committee .ensures) ∙ c .before .before .before .before .if1 .left in
+    order-passed (a .store) (a .index .now) committee (c .before .before .if2 .left) (sym (c .before .check-rows .ensures) ∙ not-false (c .before .check-rows .result) (c .if3 .left))
 
 pub check-store-spec : {M : Type 1} → statement M
 check-store-spec =
     tie.close
-    (tie.spec
-    check-committee-requires
-    returns
-    returns-2
-    check-ascending-requires
-    returns-3
-    check-authorities-requires
-    returns-4
-    returns-5)
+    (tie.spec check-committee-requires returns returns-2 check-rows-requires returns-3 returns-4)

@@ -1,14 +1,16 @@
 -- The steps of a cursor give the elements of the list, one after the other. Assumes nothing.
-use mathlib.Core.Path.{_≡_, refl, sym, ap, _∙_}
-use mathlib.Core.List.{List, [], _∷_}
+use mathlib.Core.Path.{_≡_, sym, ap, _∙_}
+use mathlib.Core.Bool.{true, false}
+use mathlib.Core.List.{List, _∷_}
+use mathlib.Core.Logic.{_⊎_, inl, inr}
 use Prim.Native.Nat.{ℕ, zero, suc, _-_, _≤_, _<_}
 use native.Mathlib.Omega.{arith}
-use native.Mathlib.Numerals.{sub-one}
 use borrow.Author.Tests.{eq-eqb, ne-eqb}
-use lib.Dec.{eqb}
-use lib.ListN.{length, getD}
+use lib.Dec.{leb, eqb}
+use lib.ListN.{getD}
 use Rattle.laws.specs.Pick.{pick}
-use Rattle.laws.specs.Parse.{Res, bad, got, Parser, answer, many}
+use Rattle.laws.specs.Parse.{bad, got, Parser, answer, many}
+use Rattle.laws.proofs.Tests.{leb-cases}
 use Rattle.laws.proofs.Parses.{many-cons}
 use Rattle.bincode.specs.declared.Cursor.{Cursor}
 use Rattle.bincode.specs.Cursors.{next, past, after}
@@ -56,11 +58,16 @@ module _ {A : Type 0} (f : Parser A) (s : List ℕ) where
       let r = step-at i (past c (t .end)) (t .rest) d (omega arith) in
       (r .0, rw (t .found) (r .1 ∙ ap (λ (ys : List A). got (getD ys (suc i) d) (r .0)) (sym (t .list))))
 
-  -- and after the last there is none
-  pub step-last : (n : ℕ) (c : Cursor) {xs : List A} {e : ℕ} → many f (c .left) s (c .at) ≡ got xs e → n ≡ c .left
+  -- and from the last on there is none
+  pub step-past : (n : ℕ) (c : Cursor) {xs : List A} {e : ℕ} → many f (c .left) s (c .at) ≡ got xs e → c .left ≤ n
       → next f s (after f s n c) ≡ bad
   unfolding after answer
-  step-last zero c h l = next-none c (sym l)
-  step-last (suc n) c h l =
-      let t = step c h (omega arith) in
-      rw (t .found) (step-last n (past c (t .end)) (t .rest) (omega arith))
+  step-past zero c h l = next-none c (omega arith)
+  step-past (suc n) c {xs} {e} h l = from (λ d ys g m. step-past n d {xs = ys} {e = e} g m) (leb-cases (c .left) 0)
+    where
+      from : ((d : Cursor) (ys : List A) → many f (d .left) s (d .at) ≡ got ys e → d .left ≤ n → next f s (after f s n d) ≡ bad)
+          → ((leb (c .left) 0 ≡ true) × (c .left ≤ 0)) ⊎ ((leb (c .left) 0 ≡ false) × (0 < c .left)) → next f s (after f s (suc n) c) ≡ bad
+      from later (inl z) = let none : next f s c ≡ bad = next-none c (omega (arith, z .1)) in rw none none
+      from later (inr m) =
+          let t = step c h (m .1) in
+          rw (t .found) (later (past c (t .end)) (t .others) (t .rest) (omega arith))

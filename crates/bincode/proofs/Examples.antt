@@ -1,13 +1,12 @@
 -- Worked examples of bincode's rules, computed. Assumes nothing.
 use mathlib.Core.Path.{_≡_, refl}
-use mathlib.Core.Bool.{Bool, true, false}
-use mathlib.Core.List.{List, [], _∷_, _++_}
-use mathlib.Core.Option.{Option, none, some}
-use Prim.Native.Nat.{ℕ}
+use mathlib.Core.Bool.{true}
+use mathlib.Core.List.{[], _∷_, _++_}
+use mathlib.Core.Option.{none, some}
 use lib.ListN.{replicate}
 use Rattle.laws.specs.Pick.{pick}
 use Rattle.laws.specs.Bytes.{bytesAt, le, ofLe}
-use Rattle.laws.specs.Parse.{Res, bad, got, then, raw, number, many}
+use Rattle.laws.specs.Parse.{bad, got, then, raw, number, many}
 use Rattle.bincode.specs.Bincode.{bool, option, optionBytes, boolBytes, vec, byteString, exactly}
 
 -- a bool is 0 or 1: a byte 2 is none; what follows the byte is ignored

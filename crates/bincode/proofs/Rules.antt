@@ -1,20 +1,19 @@
 -- Laws of bincode's rules. Assumes nothing.
-use mathlib.Core.Path.{_≡_, refl, sym, ap, _∙_}
-use mathlib.Core.Bool.{Bool, true, false}
-use mathlib.Core.List.{List, [], _∷_}
-use mathlib.Core.Logic.{_⊎_, inl, inr}
+use mathlib.Core.Path.{_≡_, sym, ap, _∙_}
+use mathlib.Core.List.{List}
+use mathlib.Core.Logic.{inl, inr}
 use Prim.Native.Nat.{ℕ, _+_, _≤_, _<_}
 use native.Mathlib.Omega.{arith}
-use borrow.Author.Tests.{le-leb, lt-leb, eqb-true}
+use borrow.Author.Tests.{le-leb, lt-leb}
 use lib.Dec.{leb, eqb}
 use lib.ListN.{length, getD}
 use Rattle.laws.specs.Pick.{pick}
 use Rattle.laws.specs.Bytes.{bytesAt, ofLe}
-use Rattle.laws.specs.Parse.{Res, bad, got, Parser, then, raw, number, many}
+use Rattle.laws.specs.Parse.{bad, got, Parser, then, raw, number, many}
 use Rattle.laws.proofs.Tests.{eqb-cases}
 use Rattle.laws.proofs.Written.{length-bytesAt}
 use Rattle.laws.proofs.LittleEndian.{ofLe-one}
-use Rattle.laws.proofs.Parses.{raw-got, raw-bad, raw-found, number-got, number-bad, number-found, then-found, many-length}
+use Rattle.laws.proofs.Parses.{raw-found, number-got, number-bad, number-found, then-found, many-length}
 use Rattle.bincode.specs.Bincode.{bool, vec, byteString, exactly}
 
 -- a bool, by the byte at its place

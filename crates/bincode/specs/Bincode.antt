@@ -2,7 +2,7 @@
 -- no varints, trailing bytes ignored". Each rule stands twice: the parser, to which decoders are held, and the layout, to which
 -- encoders are. A number of w bytes is `number w` and `le w`; a variant is a number of 4 bytes, and each enum names its own.
 use mathlib.Core.Bool.{Bool, true, false}
-use mathlib.Core.List.{List, [], _∷_, _++_}
+use mathlib.Core.List.{List, _++_}
 use mathlib.Core.Option.{Option, none, some}
 use Prim.Native.Nat.{ℕ}
 use lib.ListN.{length}

@@ -1,10 +1,10 @@
 -- The includes and the statements that a pass over a decoded block gives are those of the block. Assumes nothing.
-use mathlib.Core.Path.{_≡_, refl, sym, ap, _∙_}
+use mathlib.Core.Path.{_≡_, sym, ap, _∙_}
 use mathlib.Core.List.{List}
 use Prim.Native.Nat.{ℕ, _+_, _*_, _<_}
 use native.Mathlib.Omega.{arith}
 use lib.ListN.{length, getD}
-use Rattle.laws.specs.Parse.{Res, got, then, many}
+use Rattle.laws.specs.Parse.{got, then, many}
 use Rattle.laws.proofs.Parses.{then-found, got-value}
 use Rattle.bincode.specs.Bincode.{vec}
 use Rattle.bincode.specs.Cursors.{next, after}

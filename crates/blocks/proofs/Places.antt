@@ -1,18 +1,17 @@
 -- Where the includes and the statements of a block stand. Assumes nothing.
-use mathlib.Core.Path.{_≡_, refl, sym, ap, ap₂, _∙_}
-use mathlib.Core.Bool.{Bool, true, false}
+use mathlib.Core.Path.{_≡_, sym, ap, ap₂, _∙_}
+use mathlib.Core.Bool.{true}
 use mathlib.Core.List.{List}
 use Prim.Native.Nat.{ℕ, _+_, _*_}
 use native.Mathlib.Omega.{arith}
 use lib.ListN.{length}
-use Rattle.laws.specs.Parse.{Res, got, answer, then, number}
+use Rattle.laws.specs.Parse.{Res, got, answer, then}
 use Rattle.laws.proofs.Parses.{then-then}
 use Rattle.bincode.specs.declared.Part.{Part}
 use Rattle.bincode.specs.declared.Part.the-variants as part
-use Rattle.bincode.specs.Bincode.{bool, vec}
+use Rattle.bincode.specs.Bincode.{vec}
 use Rattle.bincode.specs.Answers.{partAnswer}
 use Rattle.bincode.proofs.Found.{part-got}
-use Rattle.crypto.specs.declared.SignatureBytes.{SignatureBytes}
 use Rattle.crypto.specs.Records.{signature}
 use Rattle.types.specs.declared.BlockReference.{BlockReference}
 use Rattle.types.specs.Records.{reference, statement, StatementValue, block, BlockValue}

@@ -5,7 +5,7 @@ use Prim.Native.Nat.{ℕ}
 use lib.ListN.{replicate}
 use Rattle.laws.specs.Pick.{pick}
 use Rattle.laws.specs.Bytes.{bytesAt, le, ofLe}
-use Rattle.laws.specs.Parse.{Res, bad, got, then, raw, number, many, joined}
+use Rattle.laws.specs.Parse.{bad, got, then, raw, number, many, joined}
 use Rattle.bincode.specs.Bincode.{vec, vecBytes, byteString, byteStringBytes, exactly}
 use Rattle.crypto.specs.Records.{digest, digestBytes}
 use Rattle.types.specs.declared.BlockReference.{BlockReference}

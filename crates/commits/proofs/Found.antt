@@ -25,7 +25,6 @@ use Rattle.blocks.proofs.Found.{block-some}
 use Rattle.commits.specs.declared.DecodedOwnBlock.{DecodedOwnBlock}
 use Rattle.commits.specs.declared.DecodedCommitData.{DecodedCommitData}
 use Rattle.commits.specs.declared.NextCommit.{NextCommit}
-use Rattle.commits.specs.declared.Commit.{Commit}
 use Rattle.commits.specs.declared.Commit.the-variants as commits
 use Rattle.commits.specs.Records.{ownBlock, CommitValue, commitData, commit}
 use Rattle.commits.specs.Answers.{ownBlockAnswer, commitOf, noCommitData, commitDataAnswer, noNextCommit, nextCommitAnswer, commitAnswer}

@@ -1,7 +1,6 @@
 -- What the answer of a decoder tells of the parser. Assumes nothing.
 use mathlib.Core.Path.{_≡_, refl}
-use mathlib.Core.Bool.{Bool, true, false}
-use Prim.Native.Nat.{ℕ}
+use mathlib.Core.Bool.{Bool}
 use Rattle.laws.specs.Parse.{Res}
 use Rattle.laws.proofs.Parses.{flagged, found-ok}
 use Rattle.crypto.specs.declared.BlockDigest.{BlockDigest}

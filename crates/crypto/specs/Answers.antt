@@ -1,6 +1,5 @@
 -- What the decoders of a digest and of a signature answer. Where there is none, all that is beside the flag is zero.
 use mathlib.Core.Bool.{true, false}
-use Prim.Native.Nat.{ℕ}
 use lib.ListN.{replicate}
 use Rattle.laws.specs.Parse.{Res, answer}
 use Rattle.crypto.specs.declared.BlockDigest.{BlockDigest}

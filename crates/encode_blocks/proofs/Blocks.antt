@@ -6,7 +6,7 @@ use mathlib.Core.Option.{none, some}
 use Prim.Native.Nat.{ℕ, _+_}
 use native.Mathlib.Omega.{arith}
 use lib.ListN.{length, length-append}
-use Rattle.laws.specs.Bytes.{le}
+use Rattle.laws.specs.Bytes.{le, AllBytes}
 use Rattle.laws.specs.Parse.{many}
 use Rattle.laws.proofs.LittleEndian.{length-le}
 use Rattle.bincode.specs.Bincode.{boolBytes}
@@ -14,7 +14,6 @@ use Rattle.crypto.specs.Records.{signatureBytes}
 use Rattle.types.specs.Records.{reference, referenceBytes, statement, blockBytes, payloadBytes}
 use Rattle.put_records.proofs.Lengths.{length-bool, length-counted, length-signature}
 use Rattle.encode.proofs.Sizes.{reference-size}
-use Rattle.roundtrip.specs.RoundTrip.{AllBytes}
 use Rattle.roundtrip.proofs.Blocks.{reference-inverse, statement-inverse}
 use Rattle.roundtrip.proofs.Wholes.{list-bytes}
 use Rattle.encode_blocks.specs.declared.BlockFields.{BlockFields}

@@ -7,7 +7,7 @@ use Prim.Native.Nat.{ℕ, _+_}
 use native.Mathlib.Omega.{arith}
 use lib.Dec.{eqb}
 use lib.ListN.{length, length-append}
-use Rattle.laws.specs.Bytes.{le}
+use Rattle.laws.specs.Bytes.{le, AllBytes}
 use Rattle.laws.specs.Parse.{answer, many}
 use Rattle.laws.proofs.Parses.{found-none, found-some}
 use Rattle.bincode.specs.Bincode.{byteStringBytes}
@@ -18,7 +18,6 @@ use Rattle.blocks.specs.Answers.{noBlock, blockAnswer}
 use Rattle.commits.specs.Records.{ownBlockBytes, commitData, commitDataBytes, commitBytes}
 use Rattle.put_records.proofs.Lengths.{length-counted}
 use Rattle.encode.proofs.Sizes.{reference-size}
-use Rattle.roundtrip.specs.RoundTrip.{AllBytes}
 use Rattle.roundtrip.proofs.Blocks.{reference-inverse, block-inverse}
 use Rattle.roundtrip.proofs.Commits.{commitData-inverse}
 use Rattle.roundtrip.proofs.Wholes.{record-bytes, list-bytes}

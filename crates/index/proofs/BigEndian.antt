@@ -5,7 +5,7 @@ use Prim.Native.Nat.{ℕ, zero, suc, _+_, _*_, _^_, _≤_, _<_}
 use native.Mathlib.Nat.{mul-le-mul-right, pow-succ', suc-mul, mul-assoc, add-mul}
 use native.Mathlib.Omega.{arith}
 use lib.Dec.{lit<}
-use lib.ListN.{length, take, drop, getD, length-append}
+use lib.ListN.{length, drop, getD, length-append}
 use lib.Pow.{pow-add}
 use lib.Seq.{drop-cons}
 use mir.Syntax.{w8}
@@ -14,9 +14,10 @@ use denote.Array.{Array, each}
 use denote.Laws.{Is}
 use denote.Plain.{UInt}
 use denote.Shadow.{shadow}
-use Rattle.laws.specs.Bytes.{bytesAt}
+use Rattle.laws.specs.Bytes.{bytesAt, AllBytes}
+use Rattle.laws.proofs.AllBytes.{bytes-part}
 use Rattle.laws.proofs.Written.{length-bytesAt, bytesAt-add}
-use Rattle.index.specs.Keys.{ofBe, AllBytes}
+use Rattle.index.specs.Keys.{ofBe}
 
 -- an array of bytes is one
 pub array-bytes : (n : ℕ) (l : List ℕ) (vs : List Val) → Is (Array (UInt w8) n) l vs → AllBytes l
@@ -27,21 +28,6 @@ array-bytes n l vs is = each-byte l (is .0) (is .1 .1)
     each-byte (b ∷ l) [] h i = absurd h
     each-byte (b ∷ l) (u ∷ us) h zero = h .0 .1
     each-byte (b ∷ l) (u ∷ us) h (suc i) = each-byte l us (h .1) i
-
-bytes-drop : (p : ℕ) (l : List ℕ) → AllBytes l → AllBytes (drop p l)
-bytes-drop zero l h = h
-bytes-drop (suc p) [] h = h
-bytes-drop (suc p) (b ∷ l) h = bytes-drop p l (λ i. h (suc i))
-
-bytes-take : (n : ℕ) (l : List ℕ) → AllBytes l → AllBytes (take n l)
-bytes-take zero l h i = lit< tt
-bytes-take (suc n) [] h i = h i
-bytes-take (suc n) (b ∷ l) h zero = h 0
-bytes-take (suc n) (b ∷ l) h (suc i) = bytes-take n l (λ j. h (suc j)) i
-
-pub bytes-part : (l : List ℕ) (p n : ℕ) → AllBytes l → AllBytes (bytesAt l p n)
-unfolding bytesAt
-bytes-part l p n h = bytes-take n (drop p l) (bytes-drop p l h)
 
 pub ofBe-lt : (l : List ℕ) → AllBytes l → ofBe l < 256 ^ length l
 unfolding ofBe

@@ -3,21 +3,17 @@
 use mathlib.Core.Path.{_≡_}
 use mathlib.Core.Bool.{Bool, true, false}
 use mathlib.Core.List.{List, [], _∷_, _++_}
-use Prim.Native.Nat.{ℕ, _+_, _*_, _^_, _<_}
+use Prim.Native.Nat.{ℕ, _+_, _*_, _^_}
 use lib.Dec.{eqb}
 use lib.ListN.{length, getD}
 use Rattle.laws.specs.Pick.{pick}
-use Rattle.laws.specs.Bytes.{bytesAt}
+use Rattle.laws.specs.Bytes.{bytesAt, AllBytes}
 use Rattle.types.specs.declared.BlockReference.{BlockReference}
 
 -- the number whose bytes, the most significant first, are those of the list
 unfoldable pub ofBe : List ℕ → ℕ
 ofBe [] = 0
 ofBe (b ∷ bs) = b * 256 ^ length bs + ofBe bs
-
--- a list of bytes
-abbrev pub AllBytes : List ℕ → Type 0
-AllBytes l = (i : ℕ) → getD l i 0 < 256
 
 -- a reference that was read from bytes: its digest is 32 of them
 pub record Digested (r : BlockReference) : Type 0 where

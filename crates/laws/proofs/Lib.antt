@@ -1,5 +1,6 @@
 pub mod Tests
 pub mod Written
+pub mod AllBytes
 pub mod LittleEndian
 pub mod Copying
 pub mod Parses

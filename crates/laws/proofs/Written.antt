@@ -1,11 +1,11 @@
 -- Laws of `written`, `bytesAt` and `zeros`. Assumes nothing.
-use mathlib.Core.Path.{_≡_, refl, sym, ap, _∙_, subst}
+use mathlib.Core.Path.{_≡_, refl, sym, ap, _∙_}
 use mathlib.Core.List.{List, [], _∷_, _++_, append-assoc, append-nil}
-use Prim.Native.Nat.{ℕ, zero, suc, _+_, _-_, _≤_, _<_}
+use Prim.Native.Nat.{ℕ, zero, suc, _+_, _≤_, _<_}
 use native.Mathlib.Nat.{add-zero, zero-add, add-assoc}
 use native.Mathlib.Omega.{arith}
 use lib.ListN.{length, take, drop, set, getD, replicate, length-append, length-take, length-drop, length-replicate, take-append-drop}
-use lib.Seq.{take-append-le, drop-append-le, drop-append-add, take-append-add, take-at, drop-at, drop-drop, take-take, length-take-le, take-append-seam, drop-append-seam, set-split, take-add, append-snoc, getD-take, getD-drop, drop-length}
+use lib.Seq.{take-append-le, drop-append-add, take-at, drop-at, drop-drop, take-take, set-split, take-add, append-snoc, getD-take, getD-drop, drop-length}
 use native.Mathlib.Numerals.{add-one}
 use Rattle.laws.specs.Bytes.{bytesAt, written, zeros}
 

@@ -1,7 +1,11 @@
 -- Bytes in a list: parts, writes and little-endian numbers.
 use mathlib.Core.List.{List, [], _∷_, _++_}
-use Prim.Native.Nat.{ℕ, zero, suc, _+_, _*_, _/_, _%_}
-use lib.ListN.{length, take, drop, replicate}
+use Prim.Native.Nat.{ℕ, zero, suc, _+_, _*_, _/_, _%_, _<_}
+use lib.ListN.{length, take, drop, replicate, getD}
+
+-- each element is a byte, as in every slice of bytes
+abbrev pub AllBytes : List ℕ → Type 0
+AllBytes s = (i : ℕ) → getD s i 0 < 256
 
 -- the n elements of s from index p on (fewer where s ends before)
 unfoldable pub bytesAt : List ℕ → ℕ → ℕ → List ℕ

@@ -6,7 +6,7 @@ use lib.ListN.{length}
 use Rattle.laws.specs.Pick.{pick}
 use Rattle.laws.specs.Parse.{Res, bad, got, then, answer}
 use Rattle.types.specs.declared.BlockReference.{BlockReference}
-use Rattle.types.specs.Records.{StatementValue, BlockValue, block, payload}
+use Rattle.types.specs.Records.{StatementValue, block, payload}
 use Rattle.types.specs.Answers.{zeroReference}
 use Rattle.meta_statement.specs.declared.MetaKind.the-variants.{Nothing, Include, Payload}
 use Rattle.meta_statement.specs.declared.MetaStatement.{MetaStatement}

@@ -9,13 +9,14 @@ use lib.Arith.{mod-mul}
 use lib.Dec.{lit<}
 use lib.ListN.{length, getD, take, drop}
 use lib.Seq.{take-length}
-use Rattle.laws.specs.Bytes.{bytesAt}
+use Rattle.laws.specs.Bytes.{bytesAt, AllBytes}
 use Rattle.laws.proofs.Written.{length-bytesAt, bytesAt-add}
 use Rattle.text.specs.Clipped.{clipped}
 use Rattle.text.proofs.Clipped.{clipped-fits}
 use Rattle.types.specs.declared.BlockReference.{BlockReference}
-use Rattle.index.specs.Keys.{ofBe, AllBytes, Digested, digestWords, keyWords}
-use Rattle.index.proofs.BigEndian.{bytes-part, ofBe-lt}
+use Rattle.index.specs.Keys.{ofBe, Digested, digestWords, keyWords}
+use Rattle.laws.proofs.AllBytes.{bytes-part}
+use Rattle.index.proofs.BigEndian.{ofBe-lt}
 use Rattle.index.specs.declared.StoreSummary.{StoreSummary}
 use Rattle.replay.specs.Recovery.{Recovery}
 use Rattle.recovery.specs.Answers.{recoveredOf}

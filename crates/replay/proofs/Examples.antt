@@ -2,7 +2,6 @@
 use mathlib.Core.Path.{_≡_, refl}
 use mathlib.Core.Bool.{false}
 use mathlib.Core.List.{List, [], _∷_, _++_, map}
-use mathlib.Core.Option.{none, some}
 use Prim.Native.Nat.{ℕ, _^_, _-_}
 use lib.ListN.{set}
 use Rattle.laws.specs.Pick.{pick}
@@ -11,16 +10,16 @@ use Rattle.laws.specs.Parse.{then, raw, number, many, joined, answer}
 use Rattle.bincode.specs.Bincode.{bool, boolBytes, vec, vecBytes, byteString, byteStringBytes, exactly}
 use Rattle.crypto.specs.Records.{digest, digestBytes, signature, signatureBytes}
 use Rattle.types.specs.declared.BlockReference.{BlockReference}
-use Rattle.types.specs.Records.{reference, referenceBytes, statement, block, blockBytes, payload, payloadBytes}
-use Rattle.commits.specs.Records.{ownBlock, ownBlockBytes, commitData, commitDataBytes, commit, commitBytes}
+use Rattle.types.specs.Records.{reference, referenceBytes, statement, block, blockBytes, payload}
+use Rattle.commits.specs.Records.{ownBlock, ownBlockBytes, commitData, commit}
 use Rattle.wal.specs.Checks.{unless}
 use Rattle.wal.specs.Entries.{Entry}
 use Rattle.wal.specs.Walk.{END}
 use Rattle.rows.specs.Rows.{compared, choose}
 use Rattle.replay.specs.Items.{judge, Read, blockIn}
-use Rattle.replay.specs.Rules.{lastOf, gather, leaves, allLeave, canBePending, pending, stateIn, stateOf, afterState, blockOf, blocks, unprocessed, ownIn, highestOf, firstAt, ownReference, sortKey, insert, setOf, commitsIn, commits, committed, lastLeader, latest, index, highestRound}
+use Rattle.replay.specs.Rules.{lastOf, gather, leaves, allLeave, canBePending, pending, stateIn, stateOf, afterState, blockOf, blocks, unprocessed, sortKey, insert, setOf, commitsIn, commits, committed, latest, index}
 use Rattle.index.specs.Keys.{ofBe, digestWords}
-use Rattle.replay.specs.Recovery.{Lent, Recovery, refused, recovered, committeeCheck, present, blockCheck, rowsCheck, entryCheck, Scanned, scan, scanned, refusedAt, badPayload, decoded}
+use Rattle.replay.specs.Recovery.{Lent, Recovery, refused, recovered, present, blockCheck, rowsCheck, entryCheck, Scanned, scan, scanned, refusedAt, badPayload, decoded}
 
 ref : ℕ → ℕ → BlockReference
 ref authority round = record { authority = authority; round = round; digest = record { 0 = zeros 32 } }

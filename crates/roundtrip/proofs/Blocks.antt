@@ -7,13 +7,12 @@ use Prim.Native.Nat.{ℕ, _<_}
 use lib.Dec.{lit<}
 use lib.ListN.{length}
 use Rattle.laws.specs.Pick.{pick}
-use Rattle.laws.specs.Bytes.{le}
+use Rattle.laws.specs.Bytes.{le, AllBytes}
 use Rattle.laws.specs.Parse.{got, then}
 use Rattle.laws.proofs.Tests.{eqb-cases}
 use Rattle.bincode.specs.Bincode.{boolBytes, optionBytes, vecBytes, byteStringBytes, exactly}
 use Rattle.crypto.specs.Records.{digest, digestBytes, signature, signatureBytes}
 use Rattle.types.specs.Records.{reference, referenceBytes, locator, locatorBytes, range, rangeBytes, VoteValue, accept, reject, vote, voteBytes, StatementValue, share, voteOn, voteRange, statement, statementBytes, BlockValue, block, blockBytes, payload, payloadBytes}
-use Rattle.roundtrip.specs.RoundTrip.{AllBytes}
 use Rattle.roundtrip.proofs.Inverse.{Spans, Laid, Inverse}
 use Rattle.roundtrip.specs.Valid.{Wide, ValidDigest, ValidSignature, ValidReference, ValidLocator, ValidRange, ValidVote, accepts, rejects, ValidStatement, shares, votes, ranges, ValidBlock, ValidList}
 use Rattle.roundtrip.proofs.Spans.{append, left, right, first, last}

@@ -3,9 +3,8 @@ use mathlib.Core.Path.{_≡_}
 use mathlib.Core.List.{List}
 use Prim.Native.Nat.{ℕ, _+_, _≤_, _<_}
 use lib.ListN.{length}
-use Rattle.laws.specs.Bytes.{bytesAt}
+use Rattle.laws.specs.Bytes.{bytesAt, AllBytes}
 use Rattle.laws.specs.Parse.{Parser, got}
-use Rattle.roundtrip.specs.RoundTrip.{AllBytes}
 
 -- the bytes v stand in s from p to e
 pub record Spans (s : List ℕ) (p : ℕ) (v : List ℕ) (e : ℕ) : Type 0 where

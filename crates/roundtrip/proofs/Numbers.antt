@@ -1,18 +1,16 @@
 -- The round trip of a number, over its width. Assumes nothing.
 use mathlib.Core.Path.{_≡_, refl, sym, ap, ap₂, _∙_}
 use mathlib.Core.List.{List, [], _∷_}
-use mathlib.Core.Logic.{inl, inr}
 use Prim.Native.Nat.{ℕ, zero, suc, _+_, _*_, _/_, _%_, _^_, _≤_, _<_}
 use native.Mathlib.Nat.{pow-suc}
 use native.Mathlib.Omega.{arith}
-use lib.ListN.{length, getD, List·getD-eq-default}
-use Rattle.laws.specs.Bytes.{bytesAt, le, ofLe}
+use lib.ListN.{length}
+use Rattle.laws.specs.Bytes.{bytesAt, le, ofLe, AllBytes}
 use Rattle.laws.specs.Parse.{got, number}
-use Rattle.laws.proofs.Tests.{leb-cases}
-use Rattle.laws.proofs.Written.{length-bytesAt, getD-bytesAt}
+use Rattle.laws.proofs.AllBytes.{bytes-part}
+use Rattle.laws.proofs.Written.{length-bytesAt}
 use Rattle.laws.proofs.LittleEndian.{length-le, ofLe-le}
 use Rattle.laws.proofs.Parses.{number-got, number-found}
-use Rattle.roundtrip.specs.RoundTrip.{AllBytes}
 use Rattle.roundtrip.proofs.Inverse.{Inverse}
 use Rattle.roundtrip.specs.Valid.{Wide}
 
@@ -30,15 +28,6 @@ unfolding ofLe
 ofLe-small [] h = omega arith
 ofLe-small (b ∷ bytes) h = rw pow-suc (omega (arith, h zero, ofLe-small bytes (λ i. h (suc i))))
 
-pub part-bytes : (s : List ℕ) → AllBytes s → (p n : ℕ) → p + n ≤ length s → AllBytes (bytesAt s p n)
-part-bytes s h p n within i =
-    elim (leb-cases n i) [
-      | inl y ↦
-          let none : getD (bytesAt s p n) i 0 ≡ 0 = List·getD-eq-default (bytesAt s p n) 0 (omega (arith, length-bytesAt s p n within, y .1)) in
-          omega arith
-      | inr m ↦ omega (arith, getD-bytesAt s p n i (m .1), h (p + i))
-    ]
-
 pub number-inverse : (w : ℕ) → 0 < w → Inverse (number w) (le w) (Wide w)
 number-inverse w some-bytes =
     record {
@@ -53,7 +42,7 @@ number-inverse w some-bytes =
           let at : got (ofLe (bytesAt s p w)) (p + w) ≡ got x e = sym (number-got w s p fits) ∙ h in
           let value : ofLe (bytesAt s p w) ≡ x = cc in
           let n : length (bytesAt s p w) ≡ w = length-bytesAt s p w fits in
-          let b : AllBytes (bytesAt s p w) = part-bytes s bytes p w fits in
+          let b : AllBytes (bytesAt s p w) = bytes-part s p w bytes in
           record {
             valid = rw (n, value) at (ofLe-small (bytesAt s p w) b);
             spans = record {

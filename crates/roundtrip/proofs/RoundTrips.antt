@@ -5,12 +5,12 @@ use Prim.Native.Nat.{ℕ, _+_, _-_, _≤_}
 use native.Mathlib.Omega.{arith}
 use lib.ListN.{length, take, drop}
 use lib.Seq.{drop-at, length-take-le}
-use Rattle.laws.specs.Bytes.{bytesAt, written}
+use Rattle.laws.specs.Bytes.{bytesAt, written, AllBytes}
 use Rattle.laws.specs.Parse.{Parser, got}
 use Rattle.crypto.specs.Records.{digest, digestBytes, signature, signatureBytes}
 use Rattle.types.specs.Records.{reference, referenceBytes, locator, locatorBytes, range, rangeBytes, vote, voteBytes, statement, statementBytes, block, blockBytes, payload, payloadBytes}
 use Rattle.commits.specs.Records.{ownBlock, ownBlockBytes, commitData, commitDataBytes, commit, commitBytes}
-use Rattle.roundtrip.specs.RoundTrip.{AllBytes, RoundTrip}
+use Rattle.roundtrip.specs.RoundTrip.{RoundTrip}
 use Rattle.roundtrip.specs.Valid.{ValidDigest, ValidSignature, ValidReference, ValidLocator, ValidRange, ValidVote, ValidStatement, ValidBlock, ValidList, ValidOwnBlock, ValidCommit, ValidCommits}
 use Rattle.roundtrip.proofs.Inverse.{Inverse}
 use Rattle.roundtrip.proofs.Spans.{of-drop, between}

@@ -10,13 +10,12 @@ use borrow.Author.Tests.{eq-eqb}
 use lib.Dec.{lit<}
 use lib.ListN.{length}
 use Rattle.laws.specs.Pick.{pick}
-use Rattle.laws.specs.Bytes.{bytesAt, le}
+use Rattle.laws.specs.Bytes.{bytesAt, le, AllBytes}
 use Rattle.laws.specs.Parse.{Res, bad, got, Parser, then, raw, number, many, joined}
 use Rattle.laws.proofs.Tests.{leb-cases, eqb-cases}
 use Rattle.laws.proofs.Written.{length-bytesAt}
 use Rattle.laws.proofs.Parses.{raw-got, raw-found, then-found, many-length}
 use Rattle.bincode.specs.Bincode.{bool, boolBytes, option, optionBytes, vec, vecBytes, byteString, byteStringBytes, exactly}
-use Rattle.roundtrip.specs.RoundTrip.{AllBytes}
 use Rattle.roundtrip.proofs.Inverse.{Spans, Laid, Inverse}
 use Rattle.roundtrip.specs.Valid.{Every, nil, more, Wide, ValidBytes, ValidList, ValidOption, nothing, just}
 use Rattle.roundtrip.proofs.Spans.{empty, append, left, right, first}

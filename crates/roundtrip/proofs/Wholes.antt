@@ -3,11 +3,10 @@ use mathlib.Core.Path.{_≡_, ap₂}
 use mathlib.Core.List.{List, _++_}
 use Prim.Native.Nat.{ℕ, zero-le}
 use lib.ListN.{length}
-use Rattle.laws.specs.Bytes.{le}
+use Rattle.laws.specs.Bytes.{le, AllBytes}
 use Rattle.laws.specs.Parse.{Parser, got, many}
 use Rattle.laws.proofs.Parses.{many-length}
 use Rattle.bincode.specs.Bincode.{vecBytes}
-use Rattle.roundtrip.specs.RoundTrip.{AllBytes}
 use Rattle.roundtrip.proofs.Inverse.{Inverse}
 use Rattle.roundtrip.proofs.Spans.{all}
 use Rattle.roundtrip.proofs.Rules.{many-forth}

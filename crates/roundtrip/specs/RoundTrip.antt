@@ -1,14 +1,10 @@
 -- What it means that a parser and a layout are each other's inverse.
 use mathlib.Core.Path.{_≡_}
 use mathlib.Core.List.{List, _++_}
-use Prim.Native.Nat.{ℕ, _+_, _-_, _≤_, _<_}
-use lib.ListN.{length, drop, getD}
-use Rattle.laws.specs.Bytes.{bytesAt}
+use Prim.Native.Nat.{ℕ, _+_, _-_, _≤_}
+use lib.ListN.{length, drop}
+use Rattle.laws.specs.Bytes.{bytesAt, AllBytes}
 use Rattle.laws.specs.Parse.{Parser, got}
-
--- each element is a byte, as in every slice of bytes
-abbrev pub AllBytes : List ℕ → Type 0
-AllBytes s = (i : ℕ) → getD s i 0 < 256
 
 -- what was read from p to e: a valid value, and the bytes that were read are its layout
 pub record Read {A : Type 0} (layout : A → List ℕ) (Valid : A → Type 0) (s : List ℕ) (p : ℕ) (x : A) (e : ℕ) : Type 0 where

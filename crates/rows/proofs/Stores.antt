@@ -1,17 +1,14 @@
 -- What the stores of a row and the removal of leading rows answer and write, by what the code found. Assumes nothing.
-use mathlib.Core.Path.{_≡_, refl, sym, ap, _∙_}
+use mathlib.Core.Path.{_≡_, sym, ap, _∙_}
 use mathlib.Core.Bool.{Bool, true, false}
 use mathlib.Core.List.{List, [], _∷_, _++_}
-use mathlib.Core.Logic.{⊎-elim}
-use Prim.Native.Nat.{ℕ, zero, suc, _+_, _-_, _*_, _≤_, _<_}
-use native.Mathlib.Numerals.{towards-suc}
+use Prim.Native.Nat.{ℕ, suc, _+_, _-_, _*_, _≤_, _<_}
 use native.Mathlib.Omega.{arith}
 use lib.Dec.{ltb}
 use lib.ListN.{length, getD}
 use borrow.Author.Tests.{le-leb, lt-leb}
 use Rattle.laws.specs.Pick.{pick}
 use Rattle.laws.specs.Bytes.{bytesAt, written}
-use Rattle.rows.specs.declared.Place.{Place}
 use Rattle.rows.specs.declared.Place.the-variants.{At, Gap}
 use Rattle.rows.specs.declared.Upserted.the-variants.{Count, Full}
 use Rattle.rows.specs.Rows.{rowsOf, key, placeOf, Ascending, below, leadingBelow}

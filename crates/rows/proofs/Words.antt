@@ -1,10 +1,10 @@
 -- Words that are moved within a table, and the parts that are left and moved. Assumes nothing.
 use mathlib.Core.Path.{_≡_, refl, sym, ap, _∙_}
-use mathlib.Core.List.{List, [], _∷_, _++_, append-assoc, append-nil}
+use mathlib.Core.List.{List, [], _∷_, _++_, append-assoc}
 use Prim.Native.Nat.{ℕ, zero, suc, _+_, _-_, _≤_, _<_}
 use native.Mathlib.Nat.{zero-add}
 use native.Mathlib.Omega.{arith}
-use lib.ListN.{length, take, drop, set, getD, length-append, length-set, drop-of-length-le}
+use lib.ListN.{length, take, drop, set, getD, length-append, length-set}
 use lib.Seq.{drop-cons, drop-at, getD-take, getD-drop, length-take-le, drop-paste}
 use Rattle.laws.specs.Bytes.{bytesAt, written}
 use Rattle.laws.proofs.Copying.{Copying}

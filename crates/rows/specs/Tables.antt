@@ -11,7 +11,7 @@ use Rattle.rows.specs.declared.Place.{Place}
 use Rattle.rows.specs.declared.Place.the-variants.{At, Gap}
 use Rattle.rows.specs.declared.Upserted.{Upserted}
 use Rattle.rows.specs.declared.Upserted.the-variants.{Count, Full}
-use Rattle.rows.specs.Rows.{rowsOf, flat, key, compared, choose, placeOf, leadingBelow}
+use Rattle.rows.specs.Rows.{rowsOf, flat, key, compared, choose, placeOf}
 
 -- the n words of an answer table: its rows, and zeros behind them
 unfoldable pub tableOf : ℕ → List (List ℕ) → List ℕ

@@ -1,7 +1,6 @@
 -- What the decoders of statements answer. The bytes of a Share are answered by their place. Where there is no record, and in
 -- the fields that a kind does not use, all is zero.
 use mathlib.Core.Bool.{true, false}
-use mathlib.Core.List.{List}
 use Prim.Native.Nat.{ℕ, _-_}
 use lib.ListN.{length}
 use Rattle.laws.specs.Parse.{Res, answer}

@@ -1,17 +1,17 @@
 -- Worked examples of the records of a block, computed. Assumes nothing.
 use mathlib.Core.Path.{_≡_, refl}
-use mathlib.Core.Bool.{true, false}
+use mathlib.Core.Bool.{true}
 use mathlib.Core.List.{List, [], _∷_, _++_}
-use mathlib.Core.Option.{none, some}
+use mathlib.Core.Option.{none}
 use Prim.Native.Nat.{ℕ}
 use lib.ListN.{replicate}
 use Rattle.laws.specs.Pick.{pick}
 use Rattle.laws.specs.Bytes.{bytesAt, le, ofLe}
-use Rattle.laws.specs.Parse.{Res, bad, got, then, raw, number, many, joined}
+use Rattle.laws.specs.Parse.{bad, got, then, raw, number, many, joined}
 use Rattle.bincode.specs.Bincode.{bool, boolBytes, option, vec, vecBytes, byteString, byteStringBytes, exactly}
 use Rattle.crypto.specs.Records.{digest, digestBytes, signature, signatureBytes}
 use Rattle.types.specs.declared.BlockReference.{BlockReference}
-use Rattle.types.specs.Records.{reference, referenceBytes, vote, accept, reject, share, statement, statementBytes, BlockValue, block, blockBytes}
+use Rattle.types.specs.Records.{reference, referenceBytes, vote, reject, share, statement, statementBytes, BlockValue, block, blockBytes}
 
 -- a number of 8 bytes that is below 256
 small : ℕ → List ℕ

@@ -1,10 +1,10 @@
 -- References have one width, so that the i-th of a list is found at once. Assumes nothing.
-use mathlib.Core.Path.{_≡_, refl, sym, ap, _∙_}
+use mathlib.Core.Path.{_≡_}
 use mathlib.Core.List.{List}
 use Prim.Native.Nat.{ℕ, _+_, _*_, _<_}
 use native.Mathlib.Omega.{arith}
 use lib.ListN.{length, getD}
-use Rattle.laws.specs.Parse.{Res, bad, got, then, number, many}
+use Rattle.laws.specs.Parse.{bad, got, then, number, many}
 use Rattle.laws.proofs.Parses.{then-found, number-found, number-bad, many-length, many-width, many-at}
 use Rattle.bincode.specs.Bincode.{exactly, vec}
 use Rattle.bincode.proofs.Rules.{exactly-end}

@@ -1,6 +1,5 @@
 -- What the decoders of references, locators and ranges answer. Where there is no record all is zero.
 use mathlib.Core.Bool.{true, false}
-use Prim.Native.Nat.{ℕ}
 use lib.ListN.{replicate}
 use Rattle.laws.specs.Parse.{Res, answer}
 use Rattle.bincode.specs.declared.Cursor.{Cursor}

@@ -4,7 +4,6 @@ pub mod Comparing
 pub mod Chains
 pub mod Including
 pub mod Asking
-pub mod Decoding
 pub mod Appending
 pub mod Reaching
 pub mod Descending

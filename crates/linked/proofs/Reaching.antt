@@ -9,12 +9,11 @@ use lib.ListN.{length, drop, getD}
 use lib.Seq.{drop-drop, drop-append-le}
 use mir.Val.{boolByte}
 use Rattle.laws.specs.Pick.{pick}
-use Rattle.laws.specs.Bytes.{bytesAt, written}
+use Rattle.laws.specs.Bytes.{bytesAt, written, AllBytes}
 use Rattle.laws.proofs.Written.{length-written, drop-written}
 use Rattle.rows.specs.Rows.{rowsOf, rowAt}
 use Rattle.rows.proofs.Rows.{length-rowsOf, rowsFrom, rowsFrom-none, rowsFrom-split, rowsOf-pushed, drop-rowsOf}
 use Rattle.types.specs.declared.BlockReference.{BlockReference}
-use Rattle.roundtrip.specs.RoundTrip.{AllBytes}
 use Rattle.store.proofs.Words.{word-rowAt}
 use Rattle.lookup.specs.declared.ReadBlock.{ReadBlock}
 use Rattle.lookup.specs.Lookups as lookups
@@ -30,7 +29,7 @@ use Rattle.linked.specs.Linked.{Reads, failed, all, also, next, includes
 use Rattle.linked.specs.Searching.{Placed, AllPlaced, Ready, reachedIn, isReached, nextParents, meets, Marked, searchedOf}
 use Rattle.linked.proofs.Appending.{joined, reads-append, unloaded-append, unloaded-most, placed-append, reachedIn-append, parents-append}
 use Rattle.linked.proofs.Any.{any-append}
-use Rattle.linked.proofs.Decoding.{read-decodes}
+use Rattle.lookup.proofs.Decoding.{read-decodes}
 use Rattle.linked.proofs.Tests.{or-false}
 
 -- ---- Rows: one more, and those behind the ones that are written

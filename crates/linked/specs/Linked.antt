@@ -1,7 +1,7 @@
 -- The call `linked`. Document 01, "Lookups": "it looks up every block of the rounds from just under the later's down to the earlier's.
 -- Before any read it checks 9 for the later block, then 15 for its working rows, as many as the index has; these end zero." The order of
 -- checks before that is a query's: 1, 2, 18. That the working rows end zero stands in the contract itself.
-use mathlib.Core.Bool.{Bool, false}
+use mathlib.Core.Bool.{false}
 use mathlib.Core.List.{List, [], _∷_, _++_}
 use Prim.Native.Nat.{ℕ, zero, suc}
 use lib.Dec.{leb}
@@ -24,7 +24,7 @@ unfoldable pub downTo : ℕ → ℕ → List (List ℕ) → List (List ℕ)
 downTo low zero rows = []
 downTo low (suc n) rows = pick (leb low n) (byRound n rows ++ downTo low n rows) []
 
--- the includes of a block, of its bytes. A block that was read decodes (proofs/Decoding.antt, `read-decodes`)
+-- the includes of a block, of its bytes. A block that was read decodes (the crate lookup, proofs/Decoding.antt, `read-decodes`)
 unfoldable pub includesOf : List ℕ → List BlockReference
 includesOf bytes = answer [] (λ (b : BlockValue) e. b .includes) (block bytes 0)
 

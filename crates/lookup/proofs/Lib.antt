@@ -6,3 +6,4 @@ pub mod Collecting
 pub mod Answering
 pub mod Queries
 pub mod Blocks
+pub mod Decoding

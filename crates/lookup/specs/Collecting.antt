@@ -1,6 +1,6 @@
 -- What the loop over index rows comes to: it reads the blocks of the rows that it chooses, and counts them.
 use mathlib.Core.Path.{_≡_}
-use mathlib.Core.Bool.{Bool, true, false}
+use mathlib.Core.Bool.{Bool, true}
 use mathlib.Core.List.{List, [], _∷_}
 use Prim.Native.Nat.{ℕ, zero, suc, _*_, _/_, _≤_, _<_}
 use lib.Dec.{leb, ltb, eqb}

@@ -1,3 +1,4 @@
 pub mod Steps
 pub mod Shares
 pub mod Transactions
+pub mod Named

@@ -1,19 +1,23 @@
--- The Share among a block's statements, by what the code found there, and that it lies in the block. Assumes nothing.
+-- The Share among a block's statements, by what the code found there, and the bytes that it names. Assumes nothing.
 use mathlib.Core.Path.{_≡_, refl, sym, ap, _∙_, subst}
 use mathlib.Core.Bool.{Bool, true, false}
 use mathlib.Core.List.{List}
-use Prim.Native.Nat.{ℕ, _+_, _≤_, _<_}
+use mathlib.Core.Option.{Option, none, some}
+use Prim.Native.Nat.{ℕ, _+_, _-_, _≤_, _<_}
 use native.Mathlib.Omega.{arith}
 use lib.Dec.{eqb}
 use lib.ListN.{length}
 use Rattle.laws.specs.Pick.{pick}
+use Rattle.laws.specs.Bytes.{bytesAt}
 use Rattle.laws.specs.Parse.{Res, bad, got, then, number, answer}
 use Rattle.laws.proofs.Parses.{found-none, found-some, answered}
 use Rattle.bincode.specs.declared.Cursor.{Cursor}
 use Rattle.bincode.specs.Bincode.{byteString}
 use Rattle.bincode.specs.Cursors.{next, past, after}
 use Rattle.bincode.proofs.Rules.{bytes-found}
-use Rattle.types.specs.Records.{StatementValue, share, voteOn, voteRange, statement, locator, range, vote, BlockValue, block}
+use Rattle.types.specs.declared.TransactionLocator.{TransactionLocator}
+use Rattle.types.specs.declared.TransactionLocatorRange.{TransactionLocatorRange}
+use Rattle.types.specs.Records.{VoteValue, StatementValue, share, voteOn, voteRange, statement, locator, range, vote, BlockValue, block}
 use Rattle.statements.specs.declared.StatementKind.{StatementKind}
 use Rattle.statements.specs.declared.StatementKind.the-variants as kind
 use Rattle.statements.specs.declared.NextStatement.{NextStatement}
@@ -22,7 +26,7 @@ use Rattle.blocks.specs.declared.DecodedBlock.{DecodedBlock}
 use Rattle.blocks.specs.Answers.{blockOf, noBlock, blockAnswer}
 use Rattle.blocks.proofs.Found.{block-bad}
 use Rattle.transaction.specs.declared.Share.{Share}
-use Rattle.transaction.specs.Transaction.{noShare, shareOf, shareIn}
+use Rattle.transaction.specs.Transaction.{noShare, shareOf, shareIn, shareBytes, named}
 use Rattle.transaction.proofs.Steps.{Stepping, stepping-next, stepping-none, stepping-end}
 
 -- ---- A step
@@ -90,48 +94,69 @@ module _ (s : List ℕ) (offset : ℕ) where
       pub reached : offset ≤ i → shareOf (next statement s c) ≡ shareIn s offset
       reached all = ap (λ (c : Cursor). shareOf (next statement s c)) (sym (stepping-end statement s h all)) ∙ decoded ok
 
--- ---- Its place
+-- ---- What it names
 
--- a Share that was found begins at n or before
-record BeginsBy (n : ℕ) (x : Res StatementValue) : Type 0 where
-  place : shareOf x .at ≤ n
+-- the transaction in what a parser of statements finds
+unfoldable pub given : Res StatementValue → Option (List ℕ)
+given bad = none
+given (got v e) = shareBytes v
 
-module _ (n : ℕ) where
-  begins-none : {x : Res StatementValue} → noShare ≡ shareOf x → BeginsBy n x
-  unfolding noShare
-  begins-none e = record { place = omega (arith, ap (λ (t : Share). t .at) e) }
-
-  begins-pick : (t : Bool) {x y : Res StatementValue} → BeginsBy n x → BeginsBy n y → BeginsBy n (pick t x y)
-  unfolding pick
-  begins-pick true h g = h
-  begins-pick false h g = g
-
-  begins-then : {A : Type 0} (x : Res A) {f : A → ℕ → Res StatementValue} → ((a : A) (e : ℕ) → x ≡ got a e → BeginsBy n (f a e)) → BeginsBy n (then x f)
-  unfolding then shareOf
-  begins-then bad h = begins-none refl
-  begins-then (got a e) h = h a e refl
+-- a Share that was found lies in s, and its bytes are there
+pub record Lies (s : List ℕ) (x : Res StatementValue) : Type 0 where
+  pub within : shareOf x .at + shareOf x .len ≤ length s
+  pub names : named s (shareOf x) ≡ given x
 
 module _ (s : List ℕ) where
-  statement-within : (p : ℕ) → BeginsBy (length s) (statement s p)
-  unfolding statement shareOf
-  statement-within p =
-      let n : ℕ = length s in
-      begins-then n (number 4 s p) (λ variant e is.
-      begins-pick n (eqb variant 0)
-      (begins-then n (byteString s e) (λ bytes f found. record { place = omega (arith, bytes-found s e found .within) }))
-      (begins-pick n (eqb variant 1)
-      (begins-then n (locator s e) (λ l f is. begins-then n (vote s f) (λ v g is. begins-none n refl)))
-      (begins-pick n (eqb variant 2) (begins-then n (range s e) (λ r f is. begins-none n refl)) (begins-none n refl))))
+  lies-bad : Lies s bad
+  unfolding shareOf noShare named given pick
+  lies-bad = record { within = omega arith; names = refl }
 
-  next-within : (c : Cursor) → BeginsBy (length s) (next statement s c)
-  unfolding next shareOf
-  next-within c = begins-pick (length s) (eqb (c .left) 0) (begins-none (length s) refl) (statement-within (c .at))
+  lies-vote : (l : TransactionLocator) (v : VoteValue) (e : ℕ) → Lies s (got (voteOn l v) e)
+  unfolding shareOf noShare named given shareBytes pick
+  lies-vote l v e = record { within = omega arith; names = refl }
 
-  pub share-within : (offset : ℕ) → shareIn s offset .at ≤ length s
+  lies-range : (r : TransactionLocatorRange) (e : ℕ) → Lies s (got (voteRange r) e)
+  unfolding shareOf noShare named given shareBytes pick
+  lies-range r e = record { within = omega arith; names = refl }
+
+  lies-share : (p : ℕ) (bytes : List ℕ) (e : ℕ) → byteString s p ≡ got bytes e → Lies s (got (share bytes) e)
+  unfolding shareOf named given shareBytes pick
+  lies-share p bytes e is =
+      let found = bytes-found s p is in
+      let at : e - length bytes ≡ p + 8 = omega (arith, found .end) in
+      record {
+        within = omega (arith, found .end, found .within);
+        names = ap (λ (q : ℕ). some (bytesAt s q (length bytes))) at ∙ ap (λ (l : List ℕ). some l) (sym (found .these));
+      }
+
+  lies-pick : (t : Bool) {x y : Res StatementValue} → Lies s x → Lies s y → Lies s (pick t x y)
+  unfolding pick
+  lies-pick true h g = h
+  lies-pick false h g = g
+
+  lies-then : {A : Type 0} (x : Res A) {f : A → ℕ → Res StatementValue} → ((a : A) (e : ℕ) → x ≡ got a e → Lies s (f a e)) → Lies s (then x f)
+  unfolding then
+  lies-then bad h = lies-bad
+  lies-then (got a e) h = h a e refl
+
+  statement-lies : (p : ℕ) → Lies s (statement s p)
+  unfolding statement
+  statement-lies p =
+      lies-then (number 4 s p) (λ variant e is.
+      lies-pick (eqb variant 0) (lies-then (byteString s e) (λ bytes f found. lies-share e bytes f found))
+      (lies-pick (eqb variant 1) (lies-then (locator s e) (λ l f is. lies-then (vote s f) (λ v g is. lies-vote l v g)))
+      (lies-pick (eqb variant 2) (lies-then (range s e) (λ r f is. lies-range r f)) lies-bad)))
+
+  pub next-lies : (c : Cursor) → Lies s (next statement s c)
+  unfolding next
+  next-lies c = lies-pick (eqb (c .left) 0) lies-bad (statement-lies (c .at))
+
+  pub share-within : (offset : ℕ) → shareIn s offset .at + shareIn s offset .len ≤ length s
   unfolding shareIn answer noShare
   share-within offset = by (block s 0)
     where
       by : (x : Res BlockValue)
-          → answer noShare (λ (b : BlockValue) e. shareOf (next statement s (after statement s offset (blockOf 0 b .statements)))) x .at ≤ length s
+          → answer noShare (λ (b : BlockValue) e. shareOf (next statement s (after statement s offset (blockOf 0 b .statements)))) x .at
+          + answer noShare (λ (b : BlockValue) e. shareOf (next statement s (after statement s offset (blockOf 0 b .statements)))) x .len ≤ length s
       by bad = omega arith
-      by (got b e) = next-within (after statement s offset (blockOf 0 b .statements)) .place
+      by (got b e) = next-lies (after statement s offset (blockOf 0 b .statements)) .within

@@ -1,7 +1,8 @@
 -- A transaction by its locator. Document 01, "Lookups": "transaction (only a Share gives one)".
 use mathlib.Core.Bool.{true, false}
 use mathlib.Core.List.{List, [], _∷_}
-use Prim.Native.Nat.{ℕ, _+_, _-_}
+use mathlib.Core.Option.{Option, none, some}
+use Prim.Native.Nat.{ℕ, zero, suc, _+_, _-_}
 use lib.ListN.{length, getD}
 use Rattle.laws.specs.Pick.{pick}
 use Rattle.laws.specs.Bytes.{bytesAt}
@@ -52,3 +53,21 @@ transactionOf k s used store offset (r ∷ rows) = from (blockAt k s used (getD 
 unfoldable pub transactionAnswer : ℕ → ℕ → List ℕ → ℕ → BlockStore → ℕ → List (List ℕ) → Transaction
 transactionAnswer n k s used store offset chosen =
     unless n (λ m. refusedAnswer m store) (transactionOf k s used store offset chosen)
+
+-- ---- The transaction as bytes: what an answer names is that (proofs/Named.antt, `share-named` and `transaction-named`)
+
+-- "only a Share gives one"
+unfoldable pub shareBytes : StatementValue → Option (List ℕ)
+shareBytes (share bytes) = some bytes
+shareBytes (voteOn l v) = none
+shareBytes (voteRange r) = none
+
+-- the statement with this offset among a block's
+unfoldable pub transactionIn : List StatementValue → ℕ → Option (List ℕ)
+transactionIn [] offset = none
+transactionIn (v ∷ later) zero = shareBytes v
+transactionIn (v ∷ later) (suc offset) = transactionIn later offset
+
+-- the bytes of s that an answer names
+unfoldable pub named : List ℕ → Share → Option (List ℕ)
+named s t = pick (t .there) (some (bytesAt s (t .at) (t .len))) none

@@ -5,21 +5,20 @@ use Prim.Native.Nat.{ℕ, _+_, _-_, _≤_}
 use native.Mathlib.Omega.{arith}
 use lib.ListN.{length, take, drop, length-drop}
 use lib.Seq.{drop-drop}
-use Rattle.laws.specs.Bytes.{bytesAt}
+use Rattle.laws.specs.Bytes.{bytesAt, AllBytes}
 use Rattle.laws.specs.Parse.{number}
 use Rattle.laws.specs.Parse as parse
+use Rattle.laws.proofs.AllBytes.{bytes-part}
 use Rattle.laws.proofs.Parses.{got-value, then-found, number-found}
 use Rattle.laws.proofs.Written.{length-bytesAt}
 use Rattle.rows.proofs.Rows.{drop-take}
 use Rattle.types.specs.declared.BlockReference.{BlockReference}
 use Rattle.types.specs.Records.{BlockValue, block, blockBytes}
 use Rattle.commits.specs.Records.{OwnBlockValue, ownBlock}
-use Rattle.roundtrip.specs.RoundTrip.{AllBytes}
-use Rattle.roundtrip.proofs.Numbers.{part-bytes}
 use Rattle.roundtrip.proofs.Inverse.{Spans}
 use Rattle.roundtrip.proofs.Blocks.{block-inverse}
 use Rattle.lookup.specs.Lookups.{BlockRead, refused, got, blockAt}
 use Rattle.lookup.proofs.Blocks.{own-eight, read-holds}
 
 -- the block of an own block decodes where it stands
 behind-eight : (t : List ℕ) → AllBytes t → {o : OwnBlockValue} {e : ℕ} → ownBlock t 0 ≡ parse.Res.got o e
@@ -63,7 +62,7 @@ read-decodes k s used p bytes is =
     (λ at n h b e i. record { within = h; value = b; end = e; decodes = i; refers = refl })
     (λ at n h o e i.
     let long : 8 ≤ n = omega (arith, own-eight (bytesAt s at n) i, length-bytesAt s at n h) in
-    let d = behind-eight (bytesAt s at n) (part-bytes s bytes at n h) i in
+    let d = behind-eight (bytesAt s at n) (bytes-part s at n bytes) i in
     let whole : n ≡ 8 + (n - 8) = omega arith in
     let same : drop 8 (take n (drop at s)) ≡ take (n - 8) (drop (at + 8) s) =
     ap (λ (m : ℕ). drop 8 (take m (drop at s))) whole ∙ drop-take 8 (n - 8) (drop at s) ∙ ap (take (n - 8)) (drop-drop 8 at s) in

@@ -3,11 +3,11 @@ use mathlib.Core.Path.{_≡_, refl}
 use mathlib.Core.List.{List}
 use Prim.Native.Nat.{ℕ}
 use lib.ListN.{length}
-use Rattle.wal.specs.Append.{Placed, accepted, refused, place, imageAfter}
+use Rattle.wal.specs.Append.{Placed, accepted, refused, place}
 use Rattle.wal.specs.Answers.{appendedOf, writerAfter, appendAnswer, appendImage}
 use Rattle.wal.specs.declared.writer.WalWriter.{WalWriter}
 use Rattle.cut.specs.PlainLog.{Append}
-use Rattle.cut.specs.Cut.{Store, usedAfter, answerOf, next}
+use Rattle.cut.specs.Cut.{usedAfter, answerOf, next}
 
 left : (w : WalWriter) (n : ℕ) (x : Placed) → writerAfter w (appendedOf (w .exponent) n x) ≡ record { exponent = w .exponent; used = usedAfter x (w .used) n }
 unfolding writerAfter appendedOf usedAfter

@@ -26,5 +26,5 @@ demand-3 k least most image appends tags =
           λ c found by holds.
           recovers k least most (finalLog k image appends) below c found by holds
           (reads-back k least most (finalLog k image appends) laid below c found by holds);
-      appending = restores k least most (finalLog k image appends) laid below;
+      appending = λ c found by holds room. restores k (finalLog k image appends) laid below c found by holds least most room;
     }

@@ -1,7 +1,7 @@
 -- Recovery after a cut: it reads the same entries as the walk does. Assumes nothing.
 use mathlib.Core.Path.{_≡_, sym, ap, _∙_, subst}
 use mathlib.Core.List.{List, []}
-use Prim.Native.Nat.{ℕ, _^_, _≤_, min}
+use Prim.Native.Nat.{ℕ, _^_, _≤_}
 use native.Mathlib.Omega.{arith}
 use lib.ListN.{length}
 use Rattle.wal.specs.Checks.{logCheck, unless}

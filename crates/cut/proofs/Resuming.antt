@@ -51,10 +51,9 @@ module _ (k size : ℕ) where
 
 -- ---- In an image that holds the log's first c bytes
 
-module _ (k : ℕ) (least : 6 ≤ k) (most : k ≤ 28) (log : Log) (laid : LaidLog k log) (below : log .end ≤ 2 ^ 40)
-    (c : ℕ) (found : List ℕ) (by : c ≤ log .end) (holds : Holds log c found) (room : log .end ≤ length found) where
+module _ (k : ℕ) (log : Log) (laid : LaidLog k log) (below : log .end ≤ 2 ^ 40) (c : ℕ) (found : List ℕ) (by : c ≤ log .end) (holds : Holds log c found) where
   -- what the entries that end by c leave, and where the rest begins
-  abbrev before : Log
+  abbrev pub before : Log
   before = record { entries = kept log c; end = resumeAt log c }
 
   split : kept log c ++ lost log c ≡ log .entries
@@ -64,17 +63,13 @@ module _ (k : ℕ) (least : 6 ≤ k) (most : k ≤ 28) (log : Log) (laid : LaidL
   both : Laid k 0 (kept log c ++ lost log c)
   both = rw split (laid .laid)
 
-  laid-lost : Laid k (resumeAt log c) (lost log c)
+  pub laid-kept : LaidLog k before
   unfolding resumeAt
-  laid-lost = laid-right (kept log c) (lost log c) both
+  laid-kept = record { laid = laid-left (kept log c) (lost log c) both; ends = refl }
 
   by-cut : resumeAt log c ≤ c
   unfolding resumeAt kept
   by-cut = kept-by c (laid .laid) (omega arith)
-
-  ends : lastEnd (resumeAt log c) (lost log c) ≡ log .end
-  unfolding resumeAt
-  ends = sym (last-append 0 (kept log c) (lost log c)) ∙ ap (lastEnd 0) split ∙ laid .ends
 
   bytes-kept : take (resumeAt log c) found ≡ logBytes before
   unfolding logBytes resumeAt
@@ -85,27 +80,39 @@ module _ (k : ℕ) (least : 6 ≤ k) (most : k ≤ 28) (log : Log) (laid : LaidL
       ∙ ap (λ (es : List Entry). take (resumeAt log c) (bytesFrom 0 es)) (sym split)
       ∙ ap (take (resumeAt log c)) (bytes-append 0 (kept log c) (lost log c))
       ∙ take-at (bytesFrom 0 (kept log c)) (bytesFrom (resumeAt log c) (lost log c)) (resumeAt log c)
-      (omega (arith, length-bytes (laid-left (kept log c) (lost log c) both)))
+      (omega (arith, length-bytes (laid-kept .laid)))
 
-  resumed : Holding (length found) before (record { used = resumeAt log c; image = found })
+  -- from where it is resumed, the image holds their log
+  pub resumed : Holding (length found) before (record { used = resumeAt log c; image = found })
   unfolding resumeAt
-  resumed = record { room = refl; used = refl; ends = refl; fits = omega (arith, by-cut); bytes = bytes-kept }
+  resumed = record { room = refl; used = refl; ends = refl; fits = omega (arith, by-cut, holds .room); bytes = bytes-kept }
 
-  room-again : lastEnd (resumeAt log c) (lost log c) ≤ min (length found) (2 ^ 40)
-  room-again = rw ends (omega arith)
+  -- ---- Where there is room for the whole log
 
-  whole : plainLog k (length found) before (map again (lost log c)) ≡ log
-  whole = log-again k (length found) (kept log c) laid-lost room-again ∙ (λ i. record { entries = split i; end = ends i })
+  module _ (least : 6 ≤ k) (most : k ≤ 28) (room : log .end ≤ length found) where
+    laid-lost : Laid k (resumeAt log c) (lost log c)
+    unfolding resumeAt
+    laid-lost = laid-right (kept log c) (lost log c) both
 
-  pub restores : Restores k log c found
-  restores =
-      let st : Store = record { used = resumeAt log c; image = found } in
-      let held : Holding (length found) log (after k st (map again (lost log c))) =
-      rw whole at (run k least most (length found) before st (map again (lost log c)) resumed) in
-      record {
-        accepts =
-            ap (map (λ (x : Compared). x .answer)) (same-seen k least most (length found) before st (map again (lost log c)) resumed)
-            ∙ answers-again k (length found) (kept log c) laid-lost room-again;
-        used = held .used;
-        bytes = held .bytes;
-      }
+    ends : lastEnd (resumeAt log c) (lost log c) ≡ log .end
+    unfolding resumeAt
+    ends = sym (last-append 0 (kept log c) (lost log c)) ∙ ap (lastEnd 0) split ∙ laid .ends
+
+    room-again : lastEnd (resumeAt log c) (lost log c) ≤ min (length found) (2 ^ 40)
+    room-again = rw ends (omega arith)
+
+    whole : plainLog k (length found) before (map again (lost log c)) ≡ log
+    whole = log-again k (length found) (kept log c) laid-lost room-again ∙ (λ i. record { entries = split i; end = ends i })
+
+    pub restores : Restores k log c found
+    restores =
+        let st : Store = record { used = resumeAt log c; image = found } in
+        let held : Holding (length found) log (after k st (map again (lost log c))) =
+        rw whole at (run k least most (length found) before st (map again (lost log c)) resumed) in
+        record {
+          accepts =
+              ap (map (λ (x : Compared). x .answer)) (same-seen k least most (length found) before st (map again (lost log c)) resumed)
+              ∙ answers-again k (length found) (kept log c) laid-lost room-again;
+          used = held .used;
+          bytes = held .bytes;
+        }

@@ -3,8 +3,6 @@
 // those decode, and a checksum over a 0 for each that does not and a 1 and the bytes encoded again
 // for each that does, and the values of some fields. `stdin` and `stdout` were made by tools/oracle with the Rust's own types and
 // bincode 1.3.3: the records, and what the Rust says of each.
-ghost use Prim.Native.Nat.{_≤_};
-ghost use lib.ListN.{length};
 use bincode::Part;
 use commits::Commit;
 use encode::Encoded;

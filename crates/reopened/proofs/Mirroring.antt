@@ -5,41 +5,46 @@ use mathlib.Core.Logic.{_⊎_, ⊎-elim}
 use mathlib.Core.Option.{none, some}
 use Prim.Native.Nat.{ℕ, _<_}
 use native.Mathlib.Omega.{arith}
+use lib.ListN.{length}
 use borrow.Author.Tests.{ne-eqb}
 use Rattle.laws.specs.Pick.{pick}
+use Rattle.laws.specs.Bytes.{AllBytes}
 use Rattle.laws.specs.Parse.{Res, bad, got, answer}
 use Rattle.laws.proofs.Tests.{eqb-cases}
 use Rattle.types.specs.declared.BlockReference.{BlockReference}
 use Rattle.types.specs.Records.{BlockValue, block}
 use Rattle.commits.specs.Records.{OwnBlockValue, CommitsValue, ownBlock, commit}
 use Rattle.wal.specs.Entries.{Entry}
+use Rattle.wal.specs.Walk.{Stop}
 use Rattle.rows.specs.declared.Upserted.the-variants.{Count}
 use Rattle.rows.specs.Rows.{rowsOf}
 use Rattle.rows.specs.Tables.{upserted, upsertCount, putRow}
 use Rattle.rows.proofs.Lexicographic.{order-cases}
-use Rattle.index.specs.Keys.{AllBytes, Digested}
+use Rattle.index.specs.Keys.{Digested}
 use Rattle.index.specs.Summary.{summaryWith}
 use Rattle.index.specs.declared.StoreSummary.{StoreSummary}
 use Rattle.replay.specs.Items.{Item, isBlock, isPayload, isOwnBlock, isState, isCommit, Judged, refuse, item, judge, Read, blockIn}
 use Rattle.replay.specs.Rules.{Block, blockOf, index}
+use Rattle.replay.specs.Recovery.{recovered}
 use Rattle.replay.proofs.Sets.{order}
 use Rattle.replay.proofs.Applied.{insertRow, insertRow-below, insertRow-equal, insertRow-above, references, index-same, index-block}
-use Rattle.state.specs.Tables.{blockRow, summaryOf}
+use Rattle.state.specs.declared.Replay.{Replay}
+use Rattle.state.specs.Tables.{blockRow, summaryOf, blocksOf, replayOf}
 use Rattle.state.specs.Holding.{AllDigested}
-use Rattle.state.proofs.Checks.{judge-block, judge-own}
 use Rattle.state.proofs.Digests.{block-digested, own-digested}
 use Rattle.state.proofs.Kept.{summary-kept}
 use Rattle.state.proofs.Rows.{length-indexRow, put-blockRow}
 use Rattle.state.proofs.Summaries.{summary-joined}
-use Rattle.recovery.specs.Answers.{indexRows}
+use Rattle.recovery.specs.declared.Recovered.{Recovered}
+use Rattle.recovery.specs.Answers.{recoveredOf, answerTable, Answers, indexRows}
 use Rattle.store.specs.declared.BlockStore.{BlockStore}
-use Rattle.store.specs.Store.{indexed}
+use Rattle.store.specs.Store.{indexed, openedOf}
 use Rattle.store.proofs.Checked.{Checked}
 use Rattle.insert.specs.Insert as insert
 use Rattle.insert.specs.Insert.{Decoded, good, loadedRow, storeWith}
 use Rattle.reopened.specs.Reopened.{unloadedRow, Mirrors}
 use Rattle.reopened.proofs.Judging.{readOf, read-refused, read-judged}
-use Rattle.reopened.proofs.Rows.{rows-upserted, put-unloaded, loaded-unloaded}
+use Rattle.reopened.proofs.Rows.{rows-upserted, put-unloaded, loaded-unloaded, blocks-unloaded, table-blocks}
 
 -- ---- An entry that holds no block
 
@@ -104,46 +109,35 @@ pub record Holds (a : Entry) (r : BlockReference) : Type 0 where
   pub holds : blockIn item ≡ some r
   pub digested : Digested r
 
+-- of what a parser found, the item that recovery makes of it
+made-holds : {A : Type 0} (a : Entry) (x : Res A) (n : ℕ) (make : A → Item) (refers : A → BlockReference) → ((v : A) → blockIn (make v) ≡ some (refers v))
+    → ((v : A) (e : ℕ) → x ≡ got v e → Digested (refers v)) → judge a ≡ answer (refuse n) (λ v e. item (make v)) x
+    → {r : BlockReference} → answer (Decoded.bad n) (λ v e. good (refers v)) x ≡ good r → Holds a r
+unfolding answer blockOf
+made-holds a bad n make refers holds digested judged h = let z : _≡_ {A = ℕ} 0 1 = cc in absurd (omega arith)
+made-holds a (got v e) n make refers holds digested judged {r} h =
+    let same : refers v ≡ r = cc in
+    record {
+      item = make v;
+      is = judged;
+      block = rw (holds v, blockOf) (ap (λ (r : BlockReference). record { reference = r; position = a .start } ∷ []) same);
+      holds = holds v ∙ ap (λ (r : BlockReference). some r) same;
+      digested = subst Digested same (digested v e refl);
+    }
+
 module _ (start : ℕ) (payload : List ℕ) (all : AllBytes payload) {r : BlockReference} where
   holds-block : insert.blockOf 1 payload ≡ good r → Holds (record { start = start; tag = 1; payload = payload }) r
-  unfolding insert.blockOf pick answer blockOf blockIn
-  holds-block h = from (block payload 0) refl
-    where
-      from : (x : Res BlockValue) → block payload 0 ≡ x → Holds (record { start = start; tag = 1; payload = payload }) r
-      from bad e =
-          let both : Decoded.bad 9 ≡ good r = rw e at h in
-          let z : _≡_ {A = ℕ} 0 1 = cc in
-          absurd (omega arith)
-      from (got b f) e =
-          let both : good (b .reference) ≡ good r = rw e at h in
-          let same : b .reference ≡ r = cc in
-          record {
-            item = isBlock (b .reference);
-            is = judge-block start payload e;
-            block = ap (λ (r : BlockReference). record { reference = r; position = start } ∷ []) same;
-            holds = ap (λ (r : BlockReference). some r) same;
-            digested = subst Digested same (block-digested payload all 0 e);
-          }
+  unfolding insert.blockOf judge pick blockIn
+  holds-block =
+      made-holds (record { start = start; tag = 1; payload = payload }) (block payload 0) 9 (λ (b : BlockValue). isBlock (b .reference)) (λ b. b .reference)
+      (λ b. refl) (λ b e is. block-digested payload all 0 is) refl
 
   holds-own : insert.blockOf 3 payload ≡ good r → Holds (record { start = start; tag = 3; payload = payload }) r
-  unfolding insert.blockOf pick answer blockOf blockIn
-  holds-own h = from (ownBlock payload 0) refl
-    where
-      from : (x : Res OwnBlockValue) → ownBlock payload 0 ≡ x → Holds (record { start = start; tag = 3; payload = payload }) r
-      from bad e =
-          let both : Decoded.bad 10 ≡ good r = rw e at h in
-          let z : _≡_ {A = ℕ} 0 1 = cc in
-          absurd (omega arith)
-      from (got o f) e =
-          let both : good (o .block .reference) ≡ good r = rw e at h in
-          let same : o .block .reference ≡ r = cc in
-          record {
-            item = isOwnBlock (o .nextEntry) (o .block .reference);
-            is = judge-own start payload e;
-            block = ap (λ (r : BlockReference). record { reference = r; position = start } ∷ []) same;
-            holds = ap (λ (r : BlockReference). some r) same;
-            digested = subst Digested same (own-digested payload all 0 e);
-          }
+  unfolding insert.blockOf judge pick blockIn
+  holds-own =
+      made-holds (record { start = start; tag = 3; payload = payload }) (ownBlock payload 0) 10
+      (λ (o : OwnBlockValue). isOwnBlock (o .nextEntry) (o .block .reference)) (λ o. o .block .reference) (λ o. refl)
+      (λ o e is. own-digested payload all 0 is) refl
 
   pub insert-holds : (tag : ℕ) → (tag ≡ 1) ⊎ (tag ≡ 3) → insert.blockOf tag payload ≡ good r
       → Holds (record { start = start; tag = tag; payload = payload }) r
@@ -190,3 +184,22 @@ module _ (size own : ℕ) (l : List Read) (s : BlockStore) (words : List ℕ) (h
             ap₂ (λ (o : ℕ) (m : StoreSummary). summaryWith o r m) (h .authority) (h .summary)
             ∙ sym (summary-joined own l x b (holds .block) (omega (arith, ok .most)));
       }
+
+-- ---- The store that recovery leaves
+
+module _ (size own : ℕ) (l : List Read) where
+  -- of the entries l, in a table that begins with their index
+  pub mirrors-opened : (words : List ℕ) → rowsOf (length (index l)) words ≡ map blockRow (index l)
+      → Mirrors size own l (openedOf size own (replayOf own l)) words
+  unfolding openedOf replayOf blocksOf indexed indexRows
+  mirrors-opened words h =
+      record { committee = refl; authority = refl; rows = ap (map unloadedRow) h ∙ blocks-unloaded (index l); summary = refl }
+
+  pub mirrors-recovered : (used : ℕ) (p u c i p′ u′ c′ i′ : List ℕ) (r : Recovered) (word : Stop) (e : ℕ)
+      → Answers used own (recovered word e l) r p u c i p′ u′ c′ i′ → Mirrors size own l (openedOf size own (r .replay)) i′
+  unfolding recoveredOf answerTable indexRows
+  mirrors-recovered used p u c i p′ u′ c′ i′ r word e answers =
+      let replay : r .replay ≡ replayOf own l = ap (λ (r : Recovered). r .replay) (answers .answer) in
+      let rows : rowsOf (length (index l)) i′ ≡ map blockRow (index l) =
+      ap (rowsOf (length (index l))) (answers .index) ∙ table-blocks (length i) (index l) in
+      subst (λ (t : Replay). Mirrors size own l (openedOf size own t) i′) (sym replay) (mirrors-opened i′ rows)

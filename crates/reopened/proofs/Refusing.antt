@@ -127,6 +127,10 @@ fine-one size own before [] a h f = (subst (λ (l : List Read). Fine size own l 
 fine-one size own before (b ∷ later) a h f =
     (h .0, fine-one size own (before ++ readOf b) later a (h .1) (subst (λ (l : List Read). Fine size own l a) (sym (append-assoc before (readOf b) (gather readOf later))) f))
 
+pub fine-left : (size own : ℕ) (before : List Read) (entries later : List Entry) → AllFine size own before (entries ++ later) → AllFine size own before entries
+fine-left size own before [] later h = tt
+fine-left size own before (a ∷ entries) later h = (h .0, fine-left size own (before ++ readOf a) entries later (h .1))
+
 -- ---- The scan
 
 -- the check of rows is 0 or 15

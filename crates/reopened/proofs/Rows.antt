@@ -109,7 +109,7 @@ blocks-unloaded (b ∷ bs) = ap₂ (λ (r : List ℕ) (l : List (List ℕ)). r �
 
 -- ---- An answer table
 
-block-eights : (bs : List Block) → Eights (map blockRow bs)
+pub block-eights : (bs : List Block) → Eights (map blockRow bs)
 unfolding blockRow
 block-eights [] = tt
 block-eights (b ∷ bs) = (length-indexRow (b .reference) (b .position) 0, block-eights bs)

@@ -1,1 +1,2 @@
 pub mod Reopened
+pub mod Passing

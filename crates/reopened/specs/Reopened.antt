@@ -1,13 +1,12 @@
--- A store and its log say the same: whatever calls made them, the index that recovery of the log gives is the store's, loaded flags and
--- loads aside. What a cut leaves of the log, and what recovery gives then, is for the crate cut to say; a node that starts from there
--- starts a history of its own here, with what it appends again.
--- Document 01: "Insert (a block's bytes .. logged and indexed)"; "Index: reference to latest position, all unloaded".
+-- A store and its log say the same: whatever calls made them, and whatever power cuts came between, the index that recovery of the log
+-- gives is the store's, loaded flags and loads aside. Document 01: "Insert (a block's bytes .. logged and indexed)"; "Index: reference to
+-- latest position, all unloaded"; "After a cut at c each byte below c is the log's, and each from c on may be anything."
 use mathlib.Core.Path.{_≡_}
 use mathlib.Core.Logic.{_⊎_}
-use mathlib.Core.List.{List, [], _∷_, _++_, map}
+use mathlib.Core.List.{List, map}
 use Prim.Native.Nat.{ℕ, _^_, _≤_, _<_}
-use lib.ListN.{set}
-use Rattle.index.specs.Keys.{AllBytes}
+use lib.ListN.{length, take, set}
+use Rattle.laws.specs.Bytes.{AllBytes}
 use Rattle.replay.specs.Items.{Read}
 use Rattle.replay.specs.Recovery.{Lent, recover, refused, recovered}
 use Rattle.wal.specs.Walk.{Stop}
@@ -22,33 +21,37 @@ use Rattle.insert.specs.Insert.{Inserts}
 use Rattle.cut.specs.PlainLog.{Append}
 use Rattle.cut.specs.Cut.{Store, next}
 
--- The stores that the calls make in one image, on a log that began empty in it, whatever its bytes: what was appended, the log, the store
--- and its index. A refused append, insert, cleanup or lookup changes nothing, and a refused recovery makes no store.
-pub data Made (k size own : ℕ) (image : List ℕ) : List Append → Store → BlockStore → List ℕ → Type 0 where
-  -- no block yet, in index rows of whatever words
-  new : (index : List ℕ) → Made k size own image [] (record { used = 0; image = image }) (openedOf size own emptyReplay) index
+-- The stores that calls make, with the logs behind them and their index. A refused append, insert, cleanup or lookup changes nothing, and a
+-- refused recovery makes no store.
+pub data Made (k size own : ℕ) : Store → BlockStore → List ℕ → Type 0 where
+  -- an empty log in an image of whatever bytes, and no block yet, in index rows of whatever words
+  new : (image index : List ℕ) → Made k size own (record { used = 0; image = image }) (openedOf size own emptyReplay) index
   -- an append, accepted or not, of something else than a block: "every 32-bit tag" but the two that insert logs. A tag that recovery
   -- refuses leaves nothing to compare.
-  appends : {done : List Append} {log : Store} {s : BlockStore} {index : List ℕ} → Made k size own image done log s index
-      → (a : Append) → a .tag < 2 ^ 32 → (a .tag ≡ 1 → ⊥) → (a .tag ≡ 3 → ⊥)
-      → Made k size own image (done ++ (a ∷ [])) (next k log a) s index
+  appends : {log : Store} {s : BlockStore} {index : List ℕ} → Made k size own log s index
+      → (a : Append) → a .tag < 2 ^ 32 → (a .tag ≡ 1 → ⊥) → (a .tag ≡ 3 → ⊥) → Made k size own (next k log a) s index
   -- an accepted insert
-  inserts : {done : List Append} {log : Store} {s : BlockStore} {index : List ℕ} → Made k size own image done log s index
+  inserts : {log : Store} {s : BlockStore} {index : List ℕ} → Made k size own log s index
       → (tag : ℕ) (payload : List ℕ) → (tag ≡ 1) ⊎ (tag ≡ 3) → AllBytes payload
       → (r : Inserted) (image′ index′ : List ℕ)
       → Inserts (record { exponent = k; used = log .used }) s tag payload (log .image) index r image′ index′ → r .number ≡ 0
-      → Made k size own image (done ++ (record { tag = tag; payload = payload } ∷ [])) (record { used = r .writer .used; image = image′ }) (r .store) index′
+      → Made k size own (record { used = r .writer .used; image = image′ }) (r .store) index′
   -- cleanup changes flags, a lookup counts loads
-  cleans : {done : List Append} {log : Store} {s : BlockStore} {index : List ℕ} → Made k size own image done log s index
-      → (t : ℕ) → Made k size own image done log s (cleanupIndex k (log .image) (log .used) s index t)
-  looks : {done : List Append} {log : Store} {s : BlockStore} {index : List ℕ} → Made k size own image done log s index
-      → (n : ℕ) → Made k size own image done log (counted s n) index
-  -- the node starts anew, with what recovery gives
-  opens : {done : List Append} {log : Store} {s : BlockStore} {index : List ℕ} → Made k size own image done log s index
-      → (p u c i p′ u′ c′ i′ : List ℕ) (r : Recovered) (word : Stop) (e : ℕ) (l : List Read)
-      → recover k (log .image) (log .used) size own (lentOf p u c i) ≡ recovered word e l
-      → Answers (log .used) own (recovered word e l) r p u c i p′ u′ c′ i′
-      → Made k size own image done log (openedOf size own (r .replay)) i′
+  cleans : {log : Store} {s : BlockStore} {index : List ℕ} → Made k size own log s index
+      → (t : ℕ) → Made k size own log s (cleanupIndex k (log .image) (log .used) s index t)
+  looks : {log : Store} {s : BlockStore} {index : List ℕ} → Made k size own log s index
+      → (n : ℕ) → Made k size own log (counted s n) index
+  -- the caller lends the log in another image, or the rows in another table, as where it needs more room
+  lends : {log : Store} {s : BlockStore} {index : List ℕ} → Made k size own log s index
+      → (image′ index′ : List ℕ) → log .used ≤ length image′ → take (log .used) image′ ≡ take (log .used) (log .image)
+      → indexed s index′ ≡ indexed s index → Made k size own (record { used = log .used; image = image′ }) s index′
+  -- The node starts anew, after a stop or a power cut: what it finds has the log's first c bytes, and anything from there on. It has what
+  -- recovery gives of them, and goes on from E.
+  opens : {log : Store} {s : BlockStore} {index : List ℕ} → Made k size own log s index
+      → (c : ℕ) (found : List ℕ) → c ≤ log .used → c ≤ length found → take c found ≡ take c (log .image)
+      → (p u t i p′ u′ t′ i′ : List ℕ) (r : Recovered) (word : Stop) (e : ℕ) (l : List Read)
+      → recover k found c size own (lentOf p u t i) ≡ recovered word e l → Answers c own (recovered word e l) r p u t i p′ u′ t′ i′
+      → Made k size own (record { used = e; image = found }) (openedOf size own (r .replay)) i′
 
 -- a row, its loaded flag aside
 unfoldable pub unloadedRow : List ℕ → List ℕ
@@ -64,9 +67,9 @@ pub record Mirrors (size own : ℕ) (l : List Read) (s : BlockStore) (index : Li
 -- whatever tables are lent to the recovery that is not refused
 abbrev pub Reopened : Type 0
 Reopened =
-    (k : ℕ) → 6 ≤ k → k ≤ 28 → (size own : ℕ) (image : List ℕ) (done : List Append) (log : Store) (s : BlockStore) (index : List ℕ)
-    → Made k size own image done log s index → (lent : Lent) (word : Stop) (e : ℕ) (l : List Read)
-    → recover k (log .image) (log .used) size own lent ≡ recovered word e l → Mirrors size own l s index
+    (k : ℕ) → 6 ≤ k → k ≤ 28 → (size own : ℕ) (log : Store) (s : BlockStore) (index : List ℕ) → Made k size own log s index
+    → (lent : Lent) (word : Stop) (e : ℕ) (l : List Read) → recover k (log .image) (log .used) size own lent ≡ recovered word e l
+    → Mirrors size own l s index
 
 -- What such a recovery can be refused for: a tag (8), a pending payload (11) or a commit (12) that was appended, tables with too few rows
 -- (15), or the committee (18). The store's own blocks are not refused again, and the log is not damaged.
@@ -75,6 +78,5 @@ RefusedFor n = (n ≡ 8) ⊎ ((n ≡ 11) ⊎ ((n ≡ 12) ⊎ ((n ≡ 15) ⊎ (n 
 
 abbrev pub Refusals : Type 0
 Refusals =
-    (k : ℕ) → 6 ≤ k → k ≤ 28 → (size own : ℕ) (image : List ℕ) (done : List Append) (log : Store) (s : BlockStore) (index : List ℕ)
-    → Made k size own image done log s index → (lent : Lent) (n p : ℕ)
-    → recover k (log .image) (log .used) size own lent ≡ refused n p → RefusedFor n
+    (k : ℕ) → 6 ≤ k → k ≤ 28 → (size own : ℕ) (log : Store) (s : BlockStore) (index : List ℕ) → Made k size own log s index
+    → (lent : Lent) (n p : ℕ) → recover k (log .image) (log .used) size own lent ≡ refused n p → RefusedFor n

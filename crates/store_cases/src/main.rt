@@ -11,9 +11,7 @@
 // index, answers and working rows, the image and the words of the index, each behind its length, and the
 // count of its calls. A call is its kind and its arguments; references and byte strings are as bincode
 // has them.
-ghost use mathlib.Core.Path.{_≡_};
 ghost use Prim.Native.Nat.{_≤_};
-ghost use lib.ListN.{length};
 use bincode::Number;
 use index::FoundReference;
 use index::StoreSummary;

@@ -4,6 +4,7 @@ use native.Mathlib.Omega.{arith}
 use lib.ListN.{length}
 use Rattle.cut.specs.PlainLog.{noEntries, logBytes}
 use Rattle.cut.specs.Cut.{Store, after, finalLog, Demand-3}
+use Rattle.cut.proofs.Calls.{calls}
 use Rattle.cut.proofs.Layouts.{LaidLog, laid-empty, laid-log, length-bytes}
 use Rattle.cut.proofs.Appending.{Holding, empty, run, same-seen}
 use Rattle.cut.proofs.Reading.{reads-back}
@@ -19,6 +20,7 @@ demand-3 k least most image appends tags =
     let laid : LaidLog k (finalLog k image appends) = laid-log k (length image) noEntries appends tags (laid-empty k) in
     let below : finalLog k image appends .end ≤ 2 ^ 40 = omega (arith, held .fits) in
     record {
+      calls = calls k;
       plain = same-seen k least most (length image) noEntries st appends (empty image);
       in-all = omega (arith, length-bytes (laid .laid), laid .ends);
       reading = reads-back k least most (finalLog k image appends) laid below;

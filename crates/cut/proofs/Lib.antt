@@ -5,6 +5,7 @@ pub mod Appending
 pub mod Fields
 pub mod Kept
 pub mod Reading
+pub mod Growing
 pub mod Recovering
 pub mod Resuming
 pub mod Demand3

@@ -5,3 +5,4 @@ pub mod Looks
 pub mod ReadAnswers
 pub mod Walks
 pub mod Steps
+pub mod Prefixes

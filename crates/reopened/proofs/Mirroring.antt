@@ -19,15 +19,13 @@ use Rattle.wal.specs.Walk.{Stop}
 use Rattle.rows.specs.declared.Upserted.the-variants.{Count}
 use Rattle.rows.specs.Rows.{rowsOf}
 use Rattle.rows.specs.Tables.{upserted, upsertCount, putRow}
-use Rattle.rows.proofs.Lexicographic.{order-cases}
 use Rattle.index.specs.Keys.{Digested}
 use Rattle.index.specs.Summary.{summaryWith}
 use Rattle.index.specs.declared.StoreSummary.{StoreSummary}
 use Rattle.replay.specs.Items.{Item, isBlock, isPayload, isOwnBlock, isState, isCommit, Judged, refuse, item, judge, Read, blockIn}
 use Rattle.replay.specs.Rules.{Block, blockOf, index}
 use Rattle.replay.specs.Recovery.{recovered}
-use Rattle.replay.proofs.Sets.{order}
-use Rattle.replay.proofs.Applied.{insertRow, insertRow-below, insertRow-equal, insertRow-above, references, index-same, index-block}
+use Rattle.replay.proofs.Applied.{references, index-same, index-block}
 use Rattle.state.specs.declared.Replay.{Replay}
 use Rattle.state.specs.Tables.{blockRow, summaryOf, blocksOf, replayOf}
 use Rattle.state.specs.Holding.{AllDigested}
@@ -150,19 +148,6 @@ module _ (start : ℕ) (payload : List ℕ) (all : AllBytes payload) {r : BlockR
       subst (λ (t : ℕ). Holds (record { start = start; tag = t; payload = payload }) r) (sym three)
       (holds-own (subst (λ (t : ℕ). insert.blockOf t payload ≡ good r) three h)))
       which
-
--- its digest joins those of the index
-pub digested-inserted : (b : Block) (bs : List Block) → Digested (b .reference) → AllDigested (references bs) → AllDigested (references (insertRow b bs))
-unfolding insertRow
-digested-inserted b [] d all = (d, tt)
-digested-inserted b (x ∷ bs) d all =
-    ⊎-elim
-    (λ l. subst (λ (rows : List Block). AllDigested (references rows)) (sym (insertRow-below b x bs l)) (d, all))
-    (⊎-elim
-    (λ e. subst (λ (rows : List Block). AllDigested (references rows)) (sym (insertRow-equal b x bs e)) (d, all .1))
-    (λ g.
-    subst (λ (rows : List Block). AllDigested (references rows)) (sym (insertRow-above b x bs g)) (all .0, digested-inserted b bs d (all .1))))
-    (order-cases (order (b .reference) (x .reference)))
 
 -- the row of a block joins the store's as it joins the index of the log
 module _ (size own : ℕ) (l : List Read) (s : BlockStore) (words : List ℕ) (h : Mirrors size own l s words) (digested : AllDigested (references (index l))) (ok : Checked s words) (a : Entry) {r : BlockReference} (holds : Holds a r) (small : r .authority < s .«committee_size») {n : ℕ} (counted : upsertCount words (s .rows) (loadedRow r (a .start)) ≡ Count n) where

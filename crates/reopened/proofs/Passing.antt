@@ -8,7 +8,6 @@ use lib.ListN.{length, take, drop, getD, length-take, length-drop, length-set}
 use lib.Seq.{getD-set-other}
 use borrow.Author.Tests.{lt-ltb}
 use Rattle.laws.specs.Pick.{pick}
-use Rattle.types.specs.declared.BlockReference.{BlockReference}
 use Rattle.wal.proofs.Checks.{Sound, sound-passes}
 use Rattle.rows.specs.Rows.{rowsOf, key, compared, Leads, Ascending}
 use Rattle.rows.specs.Tables.{Eights}
@@ -61,7 +60,7 @@ rows-fit (suc n) words h =
 
 -- ---- The rows of blocks
 
-blocks-below : (size : ℕ) (bs : List Block) → Every (λ (r : BlockReference). r .authority < size) (references bs)
+blocks-below : (size : ℕ) (bs : List Block) → Every (λ (b : Block). b .reference .authority < size) bs
     → authoritiesBelow size (map blockRow bs) ≡ true
 unfolding authoritiesBelow pick blockRow indexRow keyWords
 blocks-below size [] h = refl
@@ -74,7 +73,7 @@ blocks-ascend l digested =
 
 -- ---- The checks
 
-module _ (size own : ℕ) (committee : committeeCheck size own ≡ 0) (l : List Read) (s : BlockStore) (words : List ℕ) (h : Mirrors size own l s words) (digested : AllDigested (references (index l))) (below : Every (λ (r : BlockReference). r .authority < size) (references (index l))) where
+module _ (size own : ℕ) (committee : committeeCheck size own ≡ 0) (l : List Read) (s : BlockStore) (words : List ℕ) (h : Mirrors size own l s words) (digested : AllDigested (references (index l))) (below : Every (λ (b : Block). b .reference .authority < size) (index l)) where
   mirror-store : storeCheck s words ≡ 0
   unfolding indexed indexRows
   mirror-store =

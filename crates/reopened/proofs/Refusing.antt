@@ -26,7 +26,7 @@ use Rattle.recovery.proofs.Scanning.{concluded, replayedFrom, replayed-whole}
 use Rattle.replay.proofs.Applied.{present-index}
 use Rattle.state.specs.Holding.{blockNumber}
 use Rattle.state.proofs.BlockEntries.{exists-present}
-use Rattle.state.proofs.Checks.{check-judged, no-block}
+use Rattle.state.proofs.Checks.{check-judged, check-block, no-block}
 use Rattle.recovery.specs.Answers.{indexRows}
 use Rattle.reopened.specs.Reopened.{unloadedRow, RefusedFor}
 use Rattle.reopened.proofs.Judging.{readOf, readsOf, read-judged, check-item}
@@ -127,10 +127,6 @@ fine-one size own before [] a h f = (subst (λ (l : List Read). Fine size own l 
 fine-one size own before (b ∷ later) a h f =
     (h .0, fine-one size own (before ++ readOf b) later a (h .1) (subst (λ (l : List Read). Fine size own l a) (sym (append-assoc before (readOf b) (gather readOf later))) f))
 
-pub fine-left : (size own : ℕ) (before : List Read) (entries later : List Entry) → AllFine size own before (entries ++ later) → AllFine size own before entries
-fine-left size own before [] later h = tt
-fine-left size own before (a ∷ entries) later h = (h .0, fine-left size own (before ++ readOf a) entries later (h .1))
-
 -- ---- The scan
 
 -- the check of rows is 0 or 15
@@ -191,6 +187,48 @@ scan-refused size own lent before (a ∷ later) fine {n} {p} h =
         let x : Read = record { entry = a; item = i } in
         let on : scan size own lent (before ++ (x ∷ [])) later ≡ refusedAt n p = rw e at h in
         rest x (ap (λ (m : List Read). before ++ m) (read-judged a (check-item size own lent before a e))) on
+
+-- ---- A scan that is not refused: its entries are of that kind
+
+module _ (size own : ℕ) (lent : Lent) where
+  entry-fine : (before : List Read) (a : Entry) {i : Item} → entryCheck size own lent before a ≡ item i → Fine size own before a
+  entry-fine before a {i} h =
+      record {
+        judged =
+            λ m e.
+            let both : refuse m ≡ item i = sym (check-judged size own lent before a e) ∙ h in
+            let z : _≡_ {A = ℕ} 0 1 = cc in
+            absurd (omega arith);
+        passes =
+            λ j e.
+            ⊎-elim
+            (λ z. z .1)
+            (λ n.
+            let both : refuse (blockCheck size own (blocks before) (blockIn j)) ≡ item i = sym (check-block size own lent before a e (n .1)) ∙ h in
+            let z : _≡_ {A = ℕ} 0 1 = cc in
+            absurd (omega arith))
+            (eqb-cases (blockCheck size own (blocks before) (blockIn j)) 0);
+      }
+
+  pub scan-fine : (before : List Read) (later : List Entry) {l : List Read} → scan size own lent before later ≡ scanned l → AllFine size own before later
+  unfolding scan
+  scan-fine before [] h = tt
+  scan-fine before (a ∷ later) {l} h =
+      from (entryCheck size own lent before a) refl (λ x on. scan-fine (before ++ (x ∷ [])) later on)
+    where
+      from : (j : Judged) → entryCheck size own lent before a ≡ j
+          → ((x : Read) → scan size own lent (before ++ (x ∷ [])) later ≡ scanned l → AllFine size own (before ++ (x ∷ [])) later)
+          → AllFine size own before (a ∷ later)
+      from (refuse n) e rest =
+          let both : refusedAt n (a .start) ≡ scanned l = rw e at h in
+          let z : _≡_ {A = ℕ} 0 1 = cc in
+          absurd (omega arith)
+      from (item i) e rest =
+          let x : Read = record { entry = a; item = i } in
+          let on : scan size own lent (before ++ (x ∷ [])) later ≡ scanned l = rw e at h in
+          let same : before ++ (x ∷ []) ≡ before ++ readOf a =
+          ap (λ (m : List Read). before ++ m) (sym (read-judged a (check-item size own lent before a e))) in
+          (entry-fine before a e, subst (λ (m : List Read). AllFine size own m later) same (rest x on))
 
 -- ---- Recovery
 

@@ -1,6 +1,6 @@
--- A store and its log say the same: whatever calls made them, and whatever power cuts came between, the index that recovery of the log
--- gives is the store's, loaded flags and loads aside. Document 01: "Insert (a block's bytes .. logged and indexed)"; "Index: reference to
--- latest position, all unloaded"; "After a cut at c each byte below c is the log's, and each from c on may be anything."
+-- A store and its log say the same: whatever log a node starts from, and whatever calls of the store come then, the index that recovery of
+-- the log gives is the store's, loaded flags and loads aside. Document 01: "Insert (a block's bytes .. logged and indexed)"; "Index: reference
+-- to latest position, all unloaded".
 use mathlib.Core.Path.{_≡_}
 use mathlib.Core.Logic.{_⊎_}
 use mathlib.Core.List.{List, map}
@@ -21,13 +21,19 @@ use Rattle.insert.specs.Insert.{Inserts}
 use Rattle.cut.specs.PlainLog.{Append}
 use Rattle.cut.specs.Cut.{Store, next}
 
--- The stores that calls make, with the logs behind them and their index. A refused append, insert, cleanup or lookup changes nothing, and a
--- refused recovery makes no store.
+-- The logs that a node can come to, each with its store and the table of its index. A refused append, insert, cleanup or lookup changes
+-- nothing, and a refused recovery makes no store.
 pub data Made (k size own : ℕ) : Store → BlockStore → List ℕ → Type 0 where
   -- an empty log in an image of whatever bytes, and no block yet, in index rows of whatever words
   new : (image index : List ℕ) → Made k size own (record { used = 0; image = image }) (openedOf size own emptyReplay) index
-  -- an append, accepted or not, of something else than a block: "every 32-bit tag" but the two that insert logs. A tag that recovery
-  -- refuses leaves nothing to compare.
+  -- The node starts from a log of whatever bytes: as it was left, cut by a power failure, with zeros behind it, or written by another program.
+  -- It has what recovery gives of `used` bytes, and goes on from E. p, u, c and i are the tables lent to recovery, p′, u′, c′ and i′ what they
+  -- hold after it.
+  opens : (image : List ℕ) → AllBytes image → (used : ℕ) (p u c i p′ u′ c′ i′ : List ℕ) (r : Recovered) (word : Stop) (e : ℕ) (l : List Read)
+      → recover k image used size own (lentOf p u c i) ≡ recovered word e l → Answers used own (recovered word e l) r p u c i p′ u′ c′ i′
+      → Made k size own (record { used = e; image = image }) (openedOf size own (r .replay)) i′
+  -- An append, accepted or not, of something else than a block: "every 32-bit tag" but the two that insert logs, since a block that is only
+  -- appended is in no index before the next start.
   appends : {log : Store} {s : BlockStore} {index : List ℕ} → Made k size own log s index
       → (a : Append) → a .tag < 2 ^ 32 → (a .tag ≡ 1 → ⊥) → (a .tag ≡ 3 → ⊥) → Made k size own (next k log a) s index
   -- an accepted insert
@@ -45,13 +51,6 @@ pub data Made (k size own : ℕ) : Store → BlockStore → List ℕ → Type 0 
   lends : {log : Store} {s : BlockStore} {index : List ℕ} → Made k size own log s index
       → (image′ index′ : List ℕ) → log .used ≤ length image′ → take (log .used) image′ ≡ take (log .used) (log .image)
       → indexed s index′ ≡ indexed s index → Made k size own (record { used = log .used; image = image′ }) s index′
-  -- The node starts anew, after a stop or a power cut: what it finds has the log's first c bytes, and anything from there on. It has what
-  -- recovery gives of them, and goes on from E.
-  opens : {log : Store} {s : BlockStore} {index : List ℕ} → Made k size own log s index
-      → (c : ℕ) (found : List ℕ) → c ≤ log .used → c ≤ length found → take c found ≡ take c (log .image)
-      → (p u t i p′ u′ t′ i′ : List ℕ) (r : Recovered) (word : Stop) (e : ℕ) (l : List Read)
-      → recover k found c size own (lentOf p u t i) ≡ recovered word e l → Answers c own (recovered word e l) r p u t i p′ u′ t′ i′
-      → Made k size own (record { used = e; image = found }) (openedOf size own (r .replay)) i′
 
 -- a row, its loaded flag aside
 unfoldable pub unloadedRow : List ℕ → List ℕ
@@ -71,8 +70,8 @@ Reopened =
     → (lent : Lent) (word : Stop) (e : ℕ) (l : List Read) → recover k (log .image) (log .used) size own lent ≡ recovered word e l
     → Mirrors size own l s index
 
--- What such a recovery can be refused for: a tag (8), a pending payload (11) or a commit (12) that was appended, tables with too few rows
--- (15), or the committee (18). The store's own blocks are not refused again, and the log is not damaged.
+-- The numbers with which such a recovery can be refused: 8, 11 and 12, which are about entries that are no blocks, 15, and 18. None is about a
+-- block (9, 10, 13, 14) or about damage (5, 6, 7).
 abbrev pub RefusedFor : ℕ → Type 0
 RefusedFor n = (n ≡ 8) ⊎ ((n ≡ 11) ⊎ ((n ≡ 12) ⊎ ((n ≡ 15) ⊎ (n ≡ 18))))
 

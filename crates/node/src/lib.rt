@@ -12,10 +12,10 @@ ghost use Rattle.wal.specs.Answers.{readAnswer, walkStepAnswer};
 ghost use Rattle.replay.specs.Recovery as replay;
 ghost use Rattle.state.specs.Tables.{lentOf};
 ghost use Prim.Native.Nat.{_+_, _*_, _/_};
-ghost use Rattle.store.specs.Store.{indexed, callCheck, blockExists, blockExistsAt, allBlocksExistAt, cleanupAnswer, cleanupIndex};
+ghost use Rattle.store.specs.Store.{blockExists, blockExistsAt, allBlocksExistAt, cleanupAnswer, cleanupIndex};
 ghost use Rattle.insert.specs.Insert.{Inserts};
-ghost use Rattle.lookup.specs.Lookups.{byReference, GetBlock, GetBlocksByRound, GetBlocksAtAuthorityRound, GetOwnBlocks, GetOthersBlocks};
-ghost use Rattle.transaction.specs.Transaction.{transactionAnswer};
+ghost use Rattle.lookup.specs.Lookups.{GetBlock, GetBlocksByRound, GetBlocksAtAuthorityRound, GetOwnBlocks, GetOthersBlocks};
+ghost use Rattle.transaction.specs.Transaction.{getTransaction};
 ghost use Rattle.linked.specs.Linked.{linkedAnswer};
 ghost use Rattle.laws.specs.Bytes.{zeros};
 ghost use Rattle.node_words.specs.Stores.{referenceOf, storeOf, openedWords};
@@ -370,7 +370,7 @@ pub extern "C" fn kadzhomir_get_transaction(
     offset: u64,
     answer: &mut [u64],
 ) -> u8
-    ensures { λ r. ⌜ Shows (transactionAnswer (callCheck k used (length (now (image .entry))) (storeOf (now (store .entry))) (now (index .entry))) k (now (image .entry)) used (storeOf (now (store .entry))) offset (byReference (referenceOf (now (reference .entry))) (indexed (storeOf (now (store .entry))) (now (index .entry))))) r (now (store .entry)) (now (answer .entry)) (now (store .exit)) (now (answer .exit)) ⌝ }
+    ensures { λ r. ⌜ Shows (getTransaction k (now (image .entry)) used (storeOf (now (store .entry))) (now (index .entry)) (record { block = referenceOf (now (reference .entry)); offset = offset })) r (now (store .entry)) (now (answer .entry)) (now (store .exit)) (now (answer .exit)) ⌝ }
 {
     let s = node_words::store_of(store);
     let block = node_words::reference_at(reference, 0);

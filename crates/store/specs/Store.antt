@@ -101,7 +101,7 @@ cleanupIndex k image used store index t = cleanIndex (callCheck k used (length i
 
 -- ---- The store that recovery leaves
 
--- "all unloaded, no load counted yet"
+-- "no load counted yet"; that all are unloaded is for the rows to say (`blockRow`)
 unfoldable pub openedOf : ℕ → ℕ → Replay → BlockStore
 openedOf size own r =
     record {
@@ -112,6 +112,7 @@ openedOf size own r =
       summary = r .blocks .summary;
     }
 
--- the last seen round of any authority: 0 from 128 on
+-- The last seen round of any authority: 0 from 128 on. A field of the store's value, as the other getters give: no log and no row is read, so that
+-- 1, 2 and 18 do not arise.
 unfoldable pub lastSeenOf : BlockStore → ℕ → ℕ
 lastSeenOf s authority = getD (s .summary .«last_seen_by_authority») authority 0

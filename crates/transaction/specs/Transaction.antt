@@ -8,12 +8,14 @@ use Rattle.laws.specs.Pick.{pick}
 use Rattle.laws.specs.Bytes.{bytesAt}
 use Rattle.laws.specs.Parse.{Res, bad, got, answer}
 use Rattle.bincode.specs.Cursors.{next, after}
+use Rattle.types.specs.declared.TransactionLocator.{TransactionLocator}
 use Rattle.types.specs.Records.{StatementValue, share, voteOn, voteRange, statement, BlockValue, block}
 use Rattle.blocks.specs.Answers as blocks
 use Rattle.wal.specs.Checks.{unless}
 use Rattle.store.specs.declared.BlockStore.{BlockStore}
+use Rattle.store.specs.Store.{indexed, callCheck}
 use Rattle.lookup.specs.Lookups as lookups
-use Rattle.lookup.specs.Lookups.{BlockRead, blockAt, unloaded, counted}
+use Rattle.lookup.specs.Lookups.{BlockRead, blockAt, byReference, unloaded, counted}
 use Rattle.transaction.specs.declared.Share.{Share}
 use Rattle.transaction.specs.declared.Transaction.{Transaction}
 
@@ -49,10 +51,16 @@ transactionOf k s used store offset (r ∷ rows) = from (blockAt k s used (getD 
     from (lookups.BlockRead.got reference at n) =
         record { number = 0; share = placed at (shareIn (bytesAt s at n) offset); store = counted store (unloaded (r ∷ [])) }
 
--- `n` is the number of 1, 2 and 18
+-- `n` is the number of 1, 2 and 18, `chosen` the rows with the locator's reference
 unfoldable pub transactionAnswer : ℕ → ℕ → List ℕ → ℕ → BlockStore → ℕ → List (List ℕ) → Transaction
 transactionAnswer n k s used store offset chosen =
     unless n (λ m. refusedAnswer m store) (transactionOf k s used store offset chosen)
+
+-- the call: k, the image and used, the store and its index, and the locator
+abbrev pub getTransaction : ℕ → List ℕ → ℕ → BlockStore → List ℕ → TransactionLocator → Transaction
+getTransaction k image used store index locator =
+    transactionAnswer (callCheck k used (length image) store index) k image used store (locator .offset)
+    (byReference (locator .block) (indexed store index))
 
 -- ---- The transaction as bytes: what an answer names is that (proofs/Named.antt, `share-named` and `transaction-named`)
 

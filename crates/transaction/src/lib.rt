@@ -6,9 +6,7 @@ ghost use lib.ListN.{length};
 ghost use Rattle.bincode.specs.Cursors.{next};
 ghost use Rattle.types.specs.Records.{statement};
 ghost use Rattle.rows.specs.Rows.{rowAt};
-ghost use Rattle.store.specs.Store.{indexed, callCheck};
-ghost use Rattle.lookup.specs.Lookups.{byReference};
-ghost use Rattle.transaction.specs.Transaction.{shareOf, shareIn, refusedAnswer, transactionOf, transactionAnswer};
+ghost use Rattle.transaction.specs.Transaction.{shareOf, shareIn, refusedAnswer, transactionOf, getTransaction};
 use bincode::Cursor;
 use rows::Place;
 use statements::StatementKind;
@@ -138,7 +136,7 @@ pub fn get_transaction(
     index: &[u64],
     locator: TransactionLocator,
 ) -> Transaction
-    ensures { λ r. ⌜ r ≡ transactionAnswer (callCheck k used (length (now (image .entry))) store (now (index .entry))) k (now (image .entry)) used store (locator .offset) (byReference (locator .block) (indexed store (now (index .entry)))) ⌝ }
+    ensures { λ r. ⌜ r ≡ getTransaction k (now (image .entry)) used store (now (index .entry)) locator ⌝ }
 {
     let number = store::check_call(k, image, used, store, index);
     if number != 0 {

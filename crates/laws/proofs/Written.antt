@@ -55,11 +55,6 @@ pub drop-written : (s : List ℕ) (p : ℕ) (v : List ℕ) → p ≤ length s �
 unfolding written
 drop-written s p v h = drop-at (take p s ++ v) (drop (p + length v) s) (p + length v) (length-head s p v h)
 
--- a list that is the first p elements and then v and the rest has been written so
-pub written-of-take : (s t : List ℕ) (p : ℕ) (v : List ℕ) → take p s ≡ t → written s p v ≡ t ++ v ++ drop (p + length v) s
-unfolding written
-written-of-take s t p v e = rw e
-
 -- a store of one element
 pub written-one : (s : List ℕ) (p b : ℕ) → p < length s → set s p b ≡ written s p (b ∷ [])
 unfolding written

@@ -75,11 +75,6 @@ pub ascending-back : (a b : List (List ℕ)) → Ascending (a ++ b) → Ascendin
 ascending-back [] b h = h
 ascending-back (r ∷ a) b h = ascending-back a b (h .1)
 
-pub ascending-drop : (n : ℕ) (rows : List (List ℕ)) → Ascending rows → Ascending (drop n rows)
-ascending-drop zero rows h = h
-ascending-drop (suc n) [] h = tt
-ascending-drop (suc n) (r ∷ rows) h = ascending-drop n rows (h .1)
-
 -- a row inserted before the keys that are not below its own, which is none of theirs
 module _ (row : List ℕ) where
   leads-inserted : (k : List ℕ) (i : ℕ) (rows : List (List ℕ)) → Leads k rows → compared k (key row) ≡ Below

@@ -116,10 +116,3 @@ below-trans (x ∷ a) (y ∷ b) (z ∷ c) h g =
 
 pub irreflexive : (a : List ℕ) → compared a a ≡ Below → ⊥
 irreflexive a h = not-equal (sym h ∙ compared-self a)
-
-pub trichotomy : (a b : List ℕ) → (compared a b ≡ Below) ⊎ ((a ≡ b) ⊎ (compared b a ≡ Below))
-trichotomy a b =
-    ⊎-elim
-    (λ l. inl l)
-    (⊎-elim (λ e. inr (inl (compared-equal a b e))) (λ g. inr (inr (below-of a b g))))
-    (order-cases (compared a b))

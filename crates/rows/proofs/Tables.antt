@@ -88,9 +88,6 @@ table-empty t h = table-of t 0 [] (omega arith) refl (h ∙ ap zeros (omega arit
 pub fits-lent : (n m : ℕ) → 8 * n ≤ m → n ≤ m / 8
 fits-lent n m h = omega arith
 
-pub lent-fits : (n m : ℕ) → n ≤ m / 8 → 8 * n ≤ m
-lent-fits n m h = omega arith
-
 -- ---- A row behind the last one, and rows removed
 
 behind-more : (t : List ℕ) (n m k : ℕ) → drop n t ≡ zeros (length t - n) → m ≡ k + n → m ≤ length t → drop m t ≡ zeros (length t - m)

@@ -9,7 +9,7 @@ use lib.ListN.{length}
 use borrow.Author.Tests.{leb-true, ltb-true, le-leb, lt-leb}
 use Rattle.laws.specs.Pick.{pick}
 use Rattle.wal.specs.Checks.{logCheck, unless}
-use Rattle.wal.proofs.Checks.{Sound, passed-sound, unless-passed, unless-refused}
+use Rattle.wal.proofs.Checks.{unless-passed, unless-refused}
 use Rattle.rows.specs.Rows.{rowsOf, ascendingb, Ascending}
 use Rattle.rows.proofs.Ascending.{ascendingb-decides}
 use Rattle.replay.specs.Recovery.{committeeCheck}
@@ -65,9 +65,6 @@ module _ (k used size : ℕ) (s : BlockStore) (index : List ℕ) {r : ℕ} (is :
 
   pub call-log : logCheck k used size ≡ 0
   call-log = both .0
-
-  pub call-sound : Sound k used size
-  call-sound = passed-sound k used size call-log
 
   pub call-checked : Checked s index
   call-checked = store-checked s index (both .1)

@@ -55,9 +55,6 @@ length-decimal (suc d) n h =
           omega (arith, simp length-append at (ap length (decimal-more n (omega arith))))
     ]
 
-pub length-decimal-32 : (n : ℕ) → n < 2 ^ 32 → length (decimal n) ≤ 10
-length-decimal-32 n h = length-decimal 9 n (lt-of-lt-of-le h (lit≤ tt))
-
 pub length-decimal-64 : (n : ℕ) → n < 2 ^ 64 → length (decimal n) ≤ 20
 length-decimal-64 n h = length-decimal 19 n (lt-of-lt-of-le h (lit≤ tt))
 

@@ -4,7 +4,7 @@ use mathlib.Core.Bool.{true}
 use mathlib.Core.List.{List, [], _∷_, map}
 use Prim.Native.Nat.{ℕ, zero, suc, _*_, _≤_, _<_}
 use native.Mathlib.Omega.{arith}
-use lib.ListN.{length, take, drop, getD, length-take, length-drop, length-set}
+use lib.ListN.{length, drop, length-take, length-drop, length-set}
 use lib.Seq.{getD-set-other}
 use borrow.Author.Tests.{lt-ltb}
 use Rattle.laws.specs.Pick.{pick}
@@ -15,7 +15,7 @@ use Rattle.rows.proofs.Ascending.{ascendingb-decides}
 use Rattle.rows.proofs.Tables.{fits-lent}
 use Rattle.index.specs.Keys.{keyWords, indexRow}
 use Rattle.replay.specs.Items.{Read}
-use Rattle.replay.specs.Rules.{Block, blocks, setOf, index}
+use Rattle.replay.specs.Rules.{Block, blocks, index}
 use Rattle.replay.specs.Recovery.{committeeCheck}
 use Rattle.replay.proofs.Sets.{AscendingRefs, setOf-ascending}
 use Rattle.replay.proofs.Applied.{references, index-references}

@@ -1,12 +1,12 @@
 -- What a scan of the log's entries can be refused for. Assumes nothing.
 use mathlib.Core.Path.{_≡_, refl, sym, ap, _∙_, subst}
 use mathlib.Core.Bool.{Bool, true, false}
-use mathlib.Core.List.{List, [], _∷_, _++_, map, append-nil, append-assoc}
+use mathlib.Core.List.{List, [], _∷_, _++_, map, append-nil, append-assoc, map-append, List·Memᴰ, List·Memᴰ·head, List·Memᴰ·tail, List·Memᴰ·cases-cons, List·Memᴰ·not-nil, List·Memᴰ·append-cases, List·Memᴰ·eq-of-singleton, Memᴰ·append-right}
 use mathlib.Core.Logic.{_⊎_, inl, inr, ⊎-elim}
 use mathlib.Core.Option.{Option, none, some}
 use Prim.Native.Nat.{ℕ, zero, suc}
 use native.Mathlib.Omega.{arith}
-use lib.Dec.{leb, ltb}
+use lib.Dec.{leb}
 use lib.ListN.{length}
 use lib.Seq.{getD-set-other}
 use borrow.Author.Tests.{ne-eqb}
@@ -14,22 +14,23 @@ use Rattle.laws.specs.Pick.{pick}
 use Rattle.laws.specs.Parse.{Res, bad, got, answer}
 use Rattle.laws.proofs.Tests.{eqb-cases}
 use Rattle.types.specs.declared.BlockReference.{BlockReference}
+use Rattle.types.specs.Records.{StatementValue, payload}
 use Rattle.commits.specs.Records.{CommitsValue, commit}
 use Rattle.wal.specs.Checks.{unless}
 use Rattle.wal.specs.Entries.{Entry}
 use Rattle.index.specs.Keys.{existsAt}
-use Rattle.replay.specs.Items.{Item, isCommit, isPayload, isState, Judged, refuse, item, judge, Read, blockIn}
-use Rattle.replay.specs.Rules.{gather, blocks, pending, unprocessed, committed, index}
-use Rattle.replay.specs.Recovery.{Lent, Scanned, scanned, refusedAt, scan, present, entryCheck, blockCheck, rowsCheck, committeeCheck, badPayload, Recovery, refused, recovered, decoded, replayed}
-use Rattle.wal.specs.Walk.{Stop, Walk, stopped}
+use Rattle.replay.specs.Items.{Item, isBlock, isPayload, isOwnBlock, isState, isCommit, Judged, refuse, item, judge, Read, blockIn}
+use Rattle.replay.specs.Rules.{gather, allLeave, canBePending, blocks, pending, unprocessed, committed, index}
+use Rattle.replay.specs.Recovery.{Lent, Scanned, scanned, refusedAt, scan, present, entryCheck, blockCheck, rowsCheck, committeeCheck, badPayload, refused, recovered, decoded, replayed}
+use Rattle.wal.specs.Walk.{Stop, stopped}
 use Rattle.recovery.proofs.Scanning.{concluded, replayedFrom, replayed-whole}
 use Rattle.replay.proofs.Applied.{present-index}
 use Rattle.state.specs.Holding.{blockNumber}
 use Rattle.state.proofs.BlockEntries.{exists-present}
 use Rattle.state.proofs.Checks.{check-judged, check-block, no-block}
 use Rattle.recovery.specs.Answers.{indexRows}
-use Rattle.reopened.specs.Reopened.{unloadedRow, RefusedFor}
-use Rattle.reopened.proofs.Judging.{readOf, readsOf, read-judged, check-item}
+use Rattle.reopened.specs.Reopened.{unloadedRow, Cause, by-committee, by-entry, by-rows, by-payload}
+use Rattle.reopened.proofs.Judging.{readOf, readsOf, read-refused, read-judged, check-item, scan-reads}
 use Rattle.reopened.proofs.Mirroring.{item-no-block, Holds}
 
 -- ---- 13 and 14, by the store's rows
@@ -143,50 +144,69 @@ rows-refused lent l =
     (fifteen-else (leb (length (committed l)) (lent .committed)) _
     (fifteen-else (leb (length (index l)) (lent .index)) 0 (inl refl))))
 
-abbrev pub ScanRefused : ℕ → Type 0
-ScanRefused n = (n ≡ 8) ⊎ ((n ≡ 12) ⊎ (n ≡ 15))
-
-refused-rows : (n : ℕ) (i : Item) {m : ℕ} → (n ≡ 0) ⊎ (n ≡ 15) → unless n refuse (item i) ≡ refuse m → m ≡ 15
+refused-rows : (n : ℕ) (i : Item) {m : ℕ} → (n ≡ 0) ⊎ (n ≡ 15) → unless n refuse (item i) ≡ refuse m → (m ≡ 15) × (n ≡ 15)
 unfolding unless
 refused-rows zero i h e = let z : _≡_ {A = ℕ} 0 1 = cc in absurd (omega arith)
 refused-rows (suc n) i {m} h e =
     let same : suc n ≡ m = cc in
-    ⊎-elim (λ (z : suc n ≡ 0). absurd (omega arith)) (λ (f : suc n ≡ 15). sym same ∙ f) h
+    ⊎-elim (λ (z : suc n ≡ 0). absurd (omega arith)) (λ (f : suc n ≡ 15). (sym same ∙ f, f)) h
+
+-- an entry that is refused: by itself, or for the rows with it
+data Refusal (lent : Lent) (before : List Read) (a : Entry) : ℕ → Type 0 where
+  by-itself : {n : ℕ} → (n ≡ 8) ⊎ (n ≡ 12) → judge a ≡ refuse n → Refusal lent before a n
+  for-rows : (i : Item) → rowsCheck lent (before ++ (record { entry = a; item = i } ∷ [])) ≡ 15 → Refusal lent before a 15
 
 entry-refused : (size own : ℕ) (lent : Lent) (before : List Read) (a : Entry) → Fine size own before a → {m : ℕ}
-    → entryCheck size own lent before a ≡ refuse m → ScanRefused m
+    → entryCheck size own lent before a ≡ refuse m → Refusal lent before a m
 unfolding entryCheck unless
 entry-refused size own lent before a fine {m} h = from (judge a) refl
   where
-    from : (j : Judged) → judge a ≡ j → ScanRefused m
+    from : (j : Judged) → judge a ≡ j → Refusal lent before a m
     from (refuse n) e =
         let both : refuse n ≡ refuse m = sym (check-judged size own lent before a e) ∙ h in
         let same : n ≡ m = cc in
-        ⊎-elim (λ (eight : n ≡ 8). inl (sym same ∙ eight)) (λ (twelve : n ≡ 12). inr (inl (sym same ∙ twelve))) (fine .judged n e)
+        subst (Refusal lent before a) same (by-itself (fine .judged n e) e)
     from (item i) e =
         let rows : ℕ = rowsCheck lent (before ++ (record { entry = a; item = i } ∷ [])) in
         let is : unless rows refuse (item i) ≡ refuse m = rw (e, fine .passes i e) at h in
-        inr (inr (refused-rows rows i (rows-refused lent (before ++ (record { entry = a; item = i } ∷ []))) is))
+        let full = refused-rows rows i (rows-refused lent (before ++ (record { entry = a; item = i } ∷ []))) is in
+        subst (Refusal lent before a) (sym (full .0)) (for-rows i (full .1))
 
-pub scan-refused : (size own : ℕ) (lent : Lent) (before : List Read) (later : List Entry) → AllFine size own before later → {n p : ℕ}
-    → scan size own lent before later ≡ refusedAt n p → ScanRefused n
-unfolding scan
-scan-refused size own lent before [] fine h = let z : _≡_ {A = ℕ} 0 1 = cc in absurd (omega arith)
-scan-refused size own lent before (a ∷ later) fine {n} {p} h =
-    from (entryCheck size own lent before a) refl
-    (λ x same on. scan-refused size own lent (before ++ (x ∷ [])) later (subst (λ (l : List Read). AllFine size own l later) same (fine .1)) on)
-  where
-    from : (j : Judged) → entryCheck size own lent before a ≡ j
-        → ((x : Read) → before ++ readOf a ≡ before ++ (x ∷ []) → scan size own lent (before ++ (x ∷ [])) later ≡ refusedAt n p → ScanRefused n)
-        → ScanRefused n
-    from (refuse m) e rest =
-        let both : refusedAt m (a .start) ≡ refusedAt n p = rw e at h in
-        let same : m ≡ n = cc in
-        subst ScanRefused same (entry-refused size own lent before a (fine .0) e)
-    from (item i) e rest =
-        let x : Read = record { entry = a; item = i } in
-        let on : scan size own lent (before ++ (x ∷ [])) later ≡ refusedAt n p = rw e at h in
-        rest x (ap (λ (m : List Read). before ++ m) (read-judged a (check-item size own lent before a e))) on
+abbrev entriesIn : List Read → List Entry
+entriesIn l = map (λ (y : Read). y .entry) l
+
+module _ (size own : ℕ) (lent : Lent) (all : List Entry) where
+  -- of an entry behind those that were scanned
+  entry-cause : (before : List Read) (a : Entry) (later : List Entry) → entriesIn before ++ (a ∷ later) ≡ all → {n : ℕ} → Refusal lent before a n
+      → Cause size own lent all n (a .start)
+  entry-cause before a later done (by-itself which is) =
+      by-entry which a (subst (List·Memᴰ a) done (Memᴰ·append-right (entriesIn before) (List·Memᴰ·head refl))) is
+  entry-cause before a later done (for-rows i full) = by-rows before (record { entry = a; item = i }) later done full
+
+  scan-refused : (before : List Read) (later : List Entry) → entriesIn before ++ later ≡ all → AllFine size own before later → {n p : ℕ}
+      → scan size own lent before later ≡ refusedAt n p → Cause size own lent all n p
+  unfolding scan
+  scan-refused before [] done fine h = let z : _≡_ {A = ℕ} 0 1 = cc in absurd (omega arith)
+  scan-refused before (a ∷ later) done fine {n} {p} h =
+      from (entryCheck size own lent before a) refl
+      (λ x same is on.
+      scan-refused (before ++ (x ∷ [])) later (is ∙ done) (subst (λ (l : List Read). AllFine size own l later) same (fine .1)) on)
+    where
+      from : (j : Judged) → entryCheck size own lent before a ≡ j
+          → ((x : Read) → before ++ readOf a ≡ before ++ (x ∷ []) → entriesIn (before ++ (x ∷ [])) ++ later ≡ entriesIn before ++ (a ∷ later)
+          → scan size own lent (before ++ (x ∷ [])) later ≡ refusedAt n p → Cause size own lent all n p)
+          → Cause size own lent all n p
+      from (refuse m) e rest =
+          let both : refusedAt m (a .start) ≡ refusedAt n p = rw e at h in
+          let number : m ≡ n = cc in
+          let start : a .start ≡ p = cc in
+          subst (λ (n : ℕ). Cause size own lent all n p) number
+          (subst (Cause size own lent all m) start (entry-cause before a later done (entry-refused size own lent before a (fine .0) e)))
+      from (item i) e rest =
+          let x : Read = record { entry = a; item = i } in
+          let on : scan size own lent (before ++ (x ∷ [])) later ≡ refusedAt n p = rw e at h in
+          rest x (ap (λ (m : List Read). before ++ m) (read-judged a (check-item size own lent before a e)))
+          (ap (λ (l : List Entry). l ++ later) (map-append (λ (y : Read). y .entry) before (x ∷ [])) ∙ append-assoc (entriesIn before) (a ∷ []) later) on
 
 -- ---- A scan that is not refused: its entries are of that kind
 
@@ -230,61 +250,131 @@ module _ (size own : ℕ) (lent : Lent) where
           ap (λ (m : List Read). before ++ m) (sym (read-judged a (check-item size own lent before a e))) in
           (entry-fine before a e, subst (λ (m : List Read). AllFine size own m later) same (rest x on))
 
+-- ---- A payload that does not decode
+
+-- a read of the list that starts at p
+record Undecoded (l : List Read) (p : ℕ) : Type 0 where
+  read : Read
+  there : List·Memᴰ read l
+  is : read .item ≡ isPayload
+  undecoded : payload (read .entry .payload) 0 ≡ bad
+  start : read .entry .start ≡ p
+
+later-undecoded : (x : Read) {l : List Read} {p : ℕ} → Undecoded l p → Undecoded (x ∷ l) p
+later-undecoded x u =
+    record { read = u .read; there = List·Memᴰ·tail (u .there); is = u .is; undecoded = u .undecoded; start = u .start }
+
+bad-undecoded : (l : List Read) {p : ℕ} → badPayload l ≡ some p → Undecoded l p
+unfolding badPayload answer
+bad-undecoded [] h = let z : _≡_ {A = ℕ} 0 1 = cc in absurd (omega arith)
+bad-undecoded (x ∷ l) {p} h = by (λ g. later-undecoded x (bad-undecoded l g)) (x .item) refl (payload (x .entry .payload) 0) refl
+  where
+    by : (badPayload l ≡ some p → Undecoded (x ∷ l) p) → (i : Item) → x .item ≡ i → (y : Res (List StatementValue)) → payload (x .entry .payload) 0 ≡ y
+        → Undecoded (x ∷ l) p
+    by later (isBlock r) is y e = later (rw is at h)
+    by later isPayload is bad e =
+        let here : some (x .entry .start) ≡ some p = rw (is, e) at h in
+        let start : x .entry .start ≡ p = cc in
+        record { read = x; there = List·Memᴰ·head refl; is = is; undecoded = e; start = start }
+    by later isPayload is (got ss f) e = later (rw (is, e) at h)
+    by later (isOwnBlock m r) is y e = later (rw is at h)
+    by later isState is y e = later (rw is at h)
+    by later (isCommit c) is y e = later (rw is at h)
+
+-- what is pending was read
+pick-there : (t : Bool) (l m : List Read) {x : Read} → List·Memᴰ x (pick t l m) → List·Memᴰ x l ⊎ List·Memᴰ x m
+unfolding pick
+pick-there true l m h = inl h
+pick-there false l m h = inr h
+
+pending-there : (l : List Read) {x : Read} → List·Memᴰ x (pending l) → List·Memᴰ x l
+unfolding pending
+pending-there [] h = h
+pending-there (y ∷ l) {x} h = by (λ m. List·Memᴰ·tail (pending-there l m))
+  where
+    by : (List·Memᴰ x (pending l) → List·Memᴰ x (y ∷ l)) → List·Memᴰ x (y ∷ l)
+    by later =
+        ⊎-elim
+        (λ m.
+        ⊎-elim
+        (λ n. ⊎-elim (λ (e : x ≡ y). List·Memᴰ·head e) later (List·Memᴰ·cases-cons n))
+        later
+        (pick-there (allLeave (y .entry .start) l) (y ∷ pending l) (pending l) m))
+        later
+        (pick-there (canBePending (y .item)) (pick (allLeave (y .entry .start) l) (y ∷ pending l) (pending l)) (pending l) h)
+
+-- what was read is an entry of the log, as it is judged
+read-there : (a : Entry) {x : Read} → List·Memᴰ x (readOf a) → (x .entry ≡ a) × (judge (x .entry) ≡ item (x .item))
+read-there a {x} h = from (judge a) refl
+  where
+    from : (j : Judged) → judge a ≡ j → (x .entry ≡ a) × (judge (x .entry) ≡ item (x .item))
+    from (refuse n) e = absurd (List·Memᴰ·not-nil (subst (List·Memᴰ x) (read-refused a e) h))
+    from (item i) e =
+        let is : x ≡ record { entry = a; item = i } = List·Memᴰ·eq-of-singleton (subst (List·Memᴰ x) (read-judged a e) h) in
+        let same : x .entry ≡ a = ap (λ (y : Read). y .entry) is in
+        (same, ap judge same ∙ e ∙ ap (λ (y : Read). item (y .item)) (sym is))
+
+reads-there : (entries : List Entry) {x : Read} → List·Memᴰ x (readsOf entries) → List·Memᴰ (x .entry) entries × (judge (x .entry) ≡ item (x .item))
+unfolding readsOf gather
+reads-there [] h = absurd (List·Memᴰ·not-nil h)
+reads-there (a ∷ later) h =
+    ⊎-elim
+    (λ m. let at = read-there a m in (List·Memᴰ·head (at .0), at .1))
+    (λ m. let at = reads-there later m in (List·Memᴰ·tail (at .0), at .1))
+    (List·Memᴰ·append-cases (readOf a) h)
+
 -- ---- Recovery
 
-eighteen-else : (t : Bool) (x : ℕ) → (x ≡ 0) ⊎ (x ≡ 18) → (pick t x 18 ≡ 0) ⊎ (pick t x 18 ≡ 18)
-unfolding pick
-eighteen-else true x h = h
-eighteen-else false x h = inr refl
+module _ (size own : ℕ) (lent : Lent) (entries : List Entry) where
+  decoded-refused : (w : Stop) (e : ℕ) (l : List Read) {n p : ℕ} → l ≡ readsOf entries → decoded w e l ≡ refused n p → Cause size own lent entries n p
+  unfolding decoded
+  decoded-refused w e l {n} {p} reads h = from (badPayload (pending l)) refl
+    where
+      from : (o : Option ℕ) → badPayload (pending l) ≡ o → Cause size own lent entries n p
+      from none f =
+          let both : recovered w e l ≡ refused n p = rw (f, decoded) at h in
+          let z : _≡_ {A = ℕ} 0 1 = cc in
+          absurd (omega arith)
+      from (some q) f =
+          let both : refused 11 q ≡ refused n p = rw (f, decoded) at h in
+          let number : 11 ≡ n = cc in
+          let place : q ≡ p = cc in
+          let u = bad-undecoded (pending l) f in
+          let at = reads-there entries (subst (List·Memᴰ (u .read)) reads (pending-there l (u .there))) in
+          subst (λ (n : ℕ). Cause size own lent entries n p) number
+          (subst (Cause size own lent entries 11) (u .start ∙ place)
+          (by-payload (u .read .entry) (at .0) (at .1 ∙ ap (λ (i : Item). item i) (u .is)) (u .undecoded)))
 
-committee-number : (size own : ℕ) → (committeeCheck size own ≡ 0) ⊎ (committeeCheck size own ≡ 18)
-unfolding committeeCheck
-committee-number size own =
-    eighteen-else (leb 1 size) _ (eighteen-else (leb size 128) _ (eighteen-else (ltb own size) 0 (inl refl)))
+  replay-refused : AllFine size own [] entries → (word : Stop) (end : ℕ) {n p : ℕ}
+      → replayed size own lent (record { entries = entries; ending = stopped word end }) ≡ refused n p → Cause size own lent entries n p
+  unfolding replayedFrom concluded
+  replay-refused fine word end {n} {p} h = from (scan size own lent [] entries) refl
+    where
+      whole : replayedFrom size own lent [] (record { entries = entries; ending = stopped word end }) ≡ refused n p
+      whole = sym (replayed-whole size own lent (record { entries = entries; ending = stopped word end })) ∙ h
 
-pub committee-refused : (size own : ℕ) (x : Recovery) {n p : ℕ} → unless (committeeCheck size own) (λ m. refused m 0) x ≡ refused n p
-    → (x ≡ refused n p → RefusedFor n) → RefusedFor n
-unfolding unless
-committee-refused size own x {n} {p} h rest = from (committeeCheck size own) (committee-number size own) h
-  where
-    from : (c : ℕ) → (c ≡ 0) ⊎ (c ≡ 18) → unless c (λ m. refused m 0) x ≡ refused n p → RefusedFor n
-    from zero which e = rest e
-    from (suc c) which e =
-        let same : suc c ≡ n = cc in
-        ⊎-elim (λ (z : suc c ≡ 0). absurd (omega arith)) (λ (f : suc c ≡ 18). inr (inr (inr (inr (sym same ∙ f))))) which
+      from : (x : Scanned) → scan size own lent [] entries ≡ x → Cause size own lent entries n p
+      from (refusedAt m q) s =
+          let both : refused m q ≡ refused n p = rw s at whole in
+          let number : m ≡ n = cc in
+          let place : q ≡ p = cc in
+          subst (λ (n : ℕ). Cause size own lent entries n p) number
+          (subst (Cause size own lent entries m) place (scan-refused size own lent entries [] entries refl fine s))
+      from (scanned l) s =
+          let both : decoded word end l ≡ refused n p = rw s at whole in
+          decoded-refused word end l (scan-reads size own lent [] entries s) both
 
-decoded-refused : (w : Stop) (e : ℕ) (l : List Read) {n p : ℕ} → decoded w e l ≡ refused n p → n ≡ 11
-unfolding decoded
-decoded-refused w e l {n} {p} h = from (badPayload (pending l)) refl
-  where
-    from : (o : Option ℕ) → badPayload (pending l) ≡ o → n ≡ 11
-    from none f =
-        let both : recovered w e l ≡ refused n p = rw (f, decoded) at h in
-        let z : _≡_ {A = ℕ} 0 1 = cc in
-        absurd (omega arith)
-    from (some q) f =
-        let both : refused 11 q ≡ refused n p = rw (f, decoded) at h in
-        let same : 11 ≡ n = cc in
-        sym same
-
-pub replay-refused : (size own : ℕ) (lent : Lent) (entries : List Entry) → AllFine size own [] entries → (word : Stop) (end : ℕ) {n p : ℕ}
-    → replayed size own lent (record { entries = entries; ending = stopped word end }) ≡ refused n p → RefusedFor n
-unfolding replayedFrom concluded
-replay-refused size own lent entries fine word end {n} {p} h = from (scan size own lent [] entries) refl
-  where
-    w : Walk
-    w = record { entries = entries; ending = stopped word end }
-
-    whole : replayedFrom size own lent [] w ≡ refused n p
-    whole = sym (replayed-whole size own lent w) ∙ h
-
-    from : (x : Scanned) → scan size own lent [] entries ≡ x → RefusedFor n
-    from (refusedAt m q) s =
-        let both : refused m q ≡ refused n p = rw s at whole in
-        let same : m ≡ n = cc in
-        subst RefusedFor same
-        (⊎-elim (λ (a : m ≡ 8). inl a) (λ b. ⊎-elim (λ (c : m ≡ 12). inr (inr (inl c))) (λ (c : m ≡ 15). inr (inr (inr (inl c)))) b)
-        (scan-refused size own lent [] entries fine s))
-    from (scanned l) s =
-        let both : decoded word end l ≡ refused n p = rw s at whole in
-        inr (inl (decoded-refused word end l both))
+  pub recover-refused : AllFine size own [] entries → (word : Stop) (end : ℕ) {n p : ℕ}
+      → unless (committeeCheck size own) (λ m. refused m 0) (replayed size own lent (record { entries = entries; ending = stopped word end })) ≡ refused n p
+      → Cause size own lent entries n p
+  unfolding unless
+  recover-refused fine word end {n} {p} h = from (committeeCheck size own) refl
+    where
+      from : (c : ℕ) → committeeCheck size own ≡ c → Cause size own lent entries n p
+      from zero is = replay-refused fine word end (rw is at h)
+      from (suc c) is =
+          let both : refused (suc c) 0 ≡ refused n p = rw is at h in
+          let number : suc c ≡ n = cc in
+          let place : 0 ≡ p = cc in
+          subst (λ (n : ℕ). Cause size own lent entries n p) number
+          (subst (Cause size own lent entries (suc c)) place (by-committee (omega arith) is))

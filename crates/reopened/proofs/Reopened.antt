@@ -12,7 +12,7 @@ use Rattle.wal.specs.Checks.{logCheck, unless}
 use Rattle.wal.specs.Entries.{Entry, endOf}
 use Rattle.wal.specs.Append as append
 use Rattle.wal.specs.Append.{Placed, accepted, place, imageAfter}
-use Rattle.wal.specs.Walk.{Stop, END, Walk, stopped, walkAt}
+use Rattle.wal.specs.Walk.{Stop, END, Ending, Walk, stopped, walkAt, walk}
 use Rattle.wal.proofs.Checks.{Sound, sound-passes, passed-sound, unless-passed}
 use Rattle.wal.proofs.Places.{accepted-says}
 use Rattle.wal.proofs.Prefixes.{onwards, walk-end, Resumes, walk-resumes}
@@ -40,11 +40,11 @@ use Rattle.lookup.specs.Lookups.{counted}
 use Rattle.cut.specs.PlainLog.{Append}
 use Rattle.cut.specs.Cut.{Store, usedAfter, answerOf, next}
 use Rattle.cut.proofs.Growing.{walk-grows, grown-long}
-use Rattle.reopened.specs.Reopened.{Made, new, opens, appends, inserts, cleans, looks, lends, unloadedRow, Mirrors, Reopened, Refusals}
+use Rattle.reopened.specs.Reopened.{Made, new, opens, appends, inserts, cleans, looks, lends, unloadedRow, Mirrors, Cause, Reopened, Refusals}
 use Rattle.reopened.proofs.Judging.{readOf, readsOf, read-judged, reads-one, Replayed, replay-scanned, replay-reads, unless-recovered}
 use Rattle.reopened.proofs.Rows.{cleaned-rows}
 use Rattle.reopened.proofs.Mirroring.{no-block-read, insert-holds, mirrors-block, mirrors-opened, mirrors-recovered}
-use Rattle.reopened.proofs.Refusing.{Fine, AllFine, number-checked, fine-other, fine-inserted, fine-one, scan-fine, committee-refused, replay-refused}
+use Rattle.reopened.proofs.Refusing.{Fine, AllFine, number-checked, fine-other, fine-inserted, fine-one, scan-fine, recover-refused}
 use Rattle.reopened.proofs.References.{OfBlock, OfBlocks, OfBytes, blocks-one, no-block-holds, held-holds, every-digested, index-every, entries-digested}
 use Rattle.reopened.proofs.Walked.{walk-stands, stand-bytes}
 
@@ -317,7 +317,13 @@ reopened k least most size own log s words made lent word e l is =
     subst (λ (m : List Read). Mirrors size own m s words) (sym reads) (h .mirrors)
 
 pub refusals : Refusals
+unfolding walk
 refusals k least most size own log s words made lent n p is =
     let h : Carries k size own log s words = carries k size own least most made in
-    committee-refused size own _ (sym (recover-whole k size own h lent) ∙ is)
-    (λ here. replay-refused size own lent (h .entries) (h .fine) END (log .used) here)
+    let walks : walk k (log .image) (log .used) .entries ≡ h .entries =
+    ap (λ (w : Walk). w .entries)
+    (unless-passed (λ n. record { entries = []; ending = Ending.refused n 0 }) (walkAt k (log .image) (log .used) 0 0)
+    (logCheck k (log .used) (length (log .image))) (sound-passes k (log .used) (length (log .image)) (h .sound))
+    ∙ h .walks) in
+    subst (λ (es : List Entry). Cause size own lent es n p) (sym walks)
+    (recover-refused size own lent (h .entries) (h .fine) END (log .used) (sym (recover-whole k size own h lent) ∙ is))

@@ -3,13 +3,16 @@
 -- to latest position, all unloaded".
 use mathlib.Core.Path.{_≡_}
 use mathlib.Core.Logic.{_⊎_}
-use mathlib.Core.List.{List, map}
+use mathlib.Core.List.{List, [], _∷_, _++_, map, List·Memᴰ}
 use Prim.Native.Nat.{ℕ, _^_, _≤_, _<_}
 use lib.ListN.{length, take, set}
 use Rattle.laws.specs.Bytes.{AllBytes}
-use Rattle.replay.specs.Items.{Read}
-use Rattle.replay.specs.Recovery.{Lent, recover, refused, recovered}
-use Rattle.wal.specs.Walk.{Stop}
+use Rattle.laws.specs.Parse.{bad}
+use Rattle.types.specs.Records.{payload}
+use Rattle.replay.specs.Items.{isPayload, refuse, item, judge, Read}
+use Rattle.replay.specs.Recovery.{Lent, committeeCheck, rowsCheck, recover, refused, recovered}
+use Rattle.wal.specs.Entries.{Entry}
+use Rattle.wal.specs.Walk.{Stop, walk}
 use Rattle.state.specs.Tables.{lentOf, emptyReplay, summaryOf}
 use Rattle.recovery.specs.declared.Recovered.{Recovered}
 use Rattle.recovery.specs.Answers.{Answers, indexRows}
@@ -70,12 +73,21 @@ Reopened =
     → (lent : Lent) (word : Stop) (e : ℕ) (l : List Read) → recover k (log .image) (log .used) size own lent ≡ recovered word e l
     → Mirrors size own l s index
 
--- The numbers with which such a recovery can be refused: 8, 11 and 12, which are about entries that are no blocks, 15, and 18. None is about a
--- block (9, 10, 13, 14) or about damage (5, 6, 7).
-abbrev pub RefusedFor : ℕ → Type 0
-RefusedFor n = (n ≡ 8) ⊎ ((n ≡ 11) ⊎ ((n ≡ 12) ⊎ ((n ≡ 15) ⊎ (n ≡ 18))))
+-- Why such a recovery is refused, with its number and start: for entries that are no blocks, for the tables or for the committee. Never for a
+-- block (9, 10, 13, 14) or for damage (5, 6, 7). `entries` are those that the walk lists.
+pub data Cause (size own : ℕ) (lent : Lent) (entries : List Entry) : ℕ → ℕ → Type 0 where
+  -- 18, with 0
+  by-committee : {n : ℕ} → 0 < n → committeeCheck size own ≡ n → Cause size own lent entries n 0
+  -- 8 or 12: an entry with this tag, or a commit that does not decode
+  by-entry : {n : ℕ} → (n ≡ 8) ⊎ (n ≡ 12) → (a : Entry) → List·Memᴰ a entries → judge a ≡ refuse n → Cause size own lent entries n (a .start)
+  -- 15: the rows of the entries up to x do not fit
+  by-rows : (before : List Read) (x : Read) (later : List Entry) → map (λ (y : Read). y .entry) before ++ (x .entry ∷ later) ≡ entries
+      → rowsCheck lent (before ++ (x ∷ [])) ≡ 15 → Cause size own lent entries 15 (x .entry .start)
+  -- 11: a payload that does not decode
+  by-payload : (a : Entry) → List·Memᴰ a entries → judge a ≡ item isPayload → payload (a .payload) 0 ≡ bad → Cause size own lent entries 11 (a .start)
 
 abbrev pub Refusals : Type 0
 Refusals =
     (k : ℕ) → 6 ≤ k → k ≤ 28 → (size own : ℕ) (log : Store) (s : BlockStore) (index : List ℕ) → Made k size own log s index
-    → (lent : Lent) (n p : ℕ) → recover k (log .image) (log .used) size own lent ≡ refused n p → RefusedFor n
+    → (lent : Lent) (n p : ℕ) → recover k (log .image) (log .used) size own lent ≡ refused n p
+    → Cause size own lent (walk k (log .image) (log .used) .entries) n p

@@ -5,11 +5,11 @@ use mathlib.Core.Logic.{inl, inr}
 use Prim.Native.Nat.{ℕ, _+_, _≤_, _<_}
 use native.Mathlib.Omega.{arith}
 use borrow.Author.Tests.{le-leb, lt-leb}
-use lib.Dec.{leb, eqb}
+use lib.Dec.{eqb}
 use lib.ListN.{length, getD}
 use Rattle.laws.specs.Pick.{pick}
-use Rattle.laws.specs.Bytes.{bytesAt, ofLe}
-use Rattle.laws.specs.Parse.{bad, got, Parser, then, raw, number, many}
+use Rattle.laws.specs.Bytes.{bytesAt}
+use Rattle.laws.specs.Parse.{bad, got, Parser, then, number, many}
 use Rattle.laws.proofs.Tests.{eqb-cases}
 use Rattle.laws.proofs.Written.{length-bytesAt}
 use Rattle.laws.proofs.LittleEndian.{ofLe-one}

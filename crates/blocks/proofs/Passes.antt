@@ -4,7 +4,7 @@ use mathlib.Core.List.{List}
 use Prim.Native.Nat.{ℕ, _+_, _*_, _<_}
 use native.Mathlib.Omega.{arith}
 use lib.ListN.{length, getD}
-use Rattle.laws.specs.Parse.{got, then, many}
+use Rattle.laws.specs.Parse.{got, many}
 use Rattle.laws.proofs.Parses.{then-found, got-value}
 use Rattle.bincode.specs.Bincode.{vec}
 use Rattle.bincode.specs.Cursors.{next, after}

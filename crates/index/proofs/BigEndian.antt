@@ -5,7 +5,7 @@ use Prim.Native.Nat.{ℕ, zero, suc, _+_, _*_, _^_, _≤_, _<_}
 use native.Mathlib.Nat.{mul-le-mul-right, pow-succ', suc-mul, mul-assoc, add-mul}
 use native.Mathlib.Omega.{arith}
 use lib.Dec.{lit<}
-use lib.ListN.{length, drop, getD, length-append}
+use lib.ListN.{length, getD, length-append}
 use lib.Pow.{pow-add}
 use lib.Seq.{drop-cons}
 use mir.Syntax.{w8}

@@ -4,7 +4,7 @@ use mathlib.Core.List.{List, [], _∷_, _++_, append-assoc, append-nil}
 use Prim.Native.Nat.{ℕ, zero, suc, _+_, _≤_, _<_}
 use native.Mathlib.Nat.{add-zero, zero-add, add-assoc}
 use native.Mathlib.Omega.{arith}
-use lib.ListN.{length, take, drop, set, getD, replicate, length-append, length-take, length-drop, length-replicate, take-append-drop}
+use lib.ListN.{length, take, drop, set, getD, length-append, length-take, length-drop, length-replicate, take-append-drop}
 use lib.Seq.{take-append-le, drop-append-add, take-at, drop-at, drop-drop, take-take, set-split, take-add, append-snoc, getD-take, getD-drop, drop-length}
 use native.Mathlib.Numerals.{add-one}
 use Rattle.laws.specs.Bytes.{bytesAt, written, zeros}

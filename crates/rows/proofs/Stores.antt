@@ -11,7 +11,7 @@ use Rattle.laws.specs.Pick.{pick}
 use Rattle.laws.specs.Bytes.{bytesAt, written}
 use Rattle.rows.specs.declared.Place.the-variants.{At, Gap}
 use Rattle.rows.specs.declared.Upserted.the-variants.{Count, Full}
-use Rattle.rows.specs.Rows.{rowsOf, key, placeOf, Ascending, below, leadingBelow}
+use Rattle.rows.specs.Rows.{rowsOf, key, placeOf, Ascending, leadingBelow}
 use Rattle.rows.specs.Tables.{roomy, pushed, upsertedAt, upserted, countedAt, upsertCount}
 use Rattle.rows.proofs.Words.{bytesAt-words}
 use Rattle.rows.proofs.Rows.{length-rowsOf}

@@ -1,7 +1,7 @@
 -- What a scan of the log's entries can be refused for. Assumes nothing.
 use mathlib.Core.Path.{_≡_, refl, sym, ap, _∙_, subst}
 use mathlib.Core.Bool.{Bool, true, false}
-use mathlib.Core.List.{List, [], _∷_, _++_, map, append-nil, append-assoc, map-append, List·Memᴰ, List·Memᴰ·head, List·Memᴰ·tail, List·Memᴰ·cases-cons, List·Memᴰ·not-nil, List·Memᴰ·append-cases, List·Memᴰ·eq-of-singleton, Memᴰ·append-right}
+use mathlib.Core.List.{List, [], _∷_, _++_, map, append-nil, append-assoc, map-append, List·Memᴰ, List·Memᴰ·head, List·Memᴰ·tail, Memᴰ·append-right}
 use mathlib.Core.Logic.{_⊎_, inl, inr, ⊎-elim}
 use mathlib.Core.Option.{Option, none, some}
 use Prim.Native.Nat.{ℕ, zero, suc}
@@ -20,7 +20,7 @@ use Rattle.wal.specs.Checks.{unless}
 use Rattle.wal.specs.Entries.{Entry}
 use Rattle.index.specs.Keys.{existsAt}
 use Rattle.replay.specs.Items.{Item, isBlock, isPayload, isOwnBlock, isState, isCommit, Judged, refuse, item, judge, Read, blockIn}
-use Rattle.replay.specs.Rules.{gather, allLeave, canBePending, blocks, pending, unprocessed, committed, index}
+use Rattle.replay.specs.Rules.{gather, blocks, pending, unprocessed, committed, index}
 use Rattle.replay.specs.Recovery.{Lent, Scanned, scanned, refusedAt, scan, present, entryCheck, blockCheck, rowsCheck, committeeCheck, badPayload, refused, recovered, decoded, replayed}
 use Rattle.wal.specs.Walk.{Stop, stopped}
 use Rattle.recovery.proofs.Scanning.{concluded, replayedFrom, replayed-whole}
@@ -29,8 +29,8 @@ use Rattle.state.specs.Holding.{blockNumber}
 use Rattle.state.proofs.BlockEntries.{exists-present}
 use Rattle.state.proofs.Checks.{check-judged, check-block, no-block}
 use Rattle.recovery.specs.Answers.{indexRows}
-use Rattle.reopened.specs.Reopened.{unloadedRow, Cause, by-committee, by-entry, by-rows, by-payload}
-use Rattle.reopened.proofs.Judging.{readOf, readsOf, read-refused, read-judged, check-item, scan-reads}
+use Rattle.reopened.specs.Reopened.{unloadedRow, AllJudged, entriesIn, Cause, by-committee, by-entry, by-rows, by-payload}
+use Rattle.reopened.proofs.Judging.{readOf, readsOf, read-judged, check-item}
 use Rattle.reopened.proofs.Mirroring.{item-no-block, Holds}
 
 -- ---- 13 and 14, by the store's rows
@@ -154,7 +154,7 @@ refused-rows (suc n) i {m} h e =
 -- an entry that is refused: by itself, or for the rows with it
 data Refusal (lent : Lent) (before : List Read) (a : Entry) : ℕ → Type 0 where
   by-itself : {n : ℕ} → (n ≡ 8) ⊎ (n ≡ 12) → judge a ≡ refuse n → Refusal lent before a n
-  for-rows : (i : Item) → rowsCheck lent (before ++ (record { entry = a; item = i } ∷ [])) ≡ 15 → Refusal lent before a 15
+  for-rows : (i : Item) → judge a ≡ item i → rowsCheck lent (before ++ (record { entry = a; item = i } ∷ [])) ≡ 15 → Refusal lent before a 15
 
 entry-refused : (size own : ℕ) (lent : Lent) (before : List Read) (a : Entry) → Fine size own before a → {m : ℕ}
     → entryCheck size own lent before a ≡ refuse m → Refusal lent before a m
@@ -170,43 +170,51 @@ entry-refused size own lent before a fine {m} h = from (judge a) refl
         let rows : ℕ = rowsCheck lent (before ++ (record { entry = a; item = i } ∷ [])) in
         let is : unless rows refuse (item i) ≡ refuse m = rw (e, fine .passes i e) at h in
         let full = refused-rows rows i (rows-refused lent (before ++ (record { entry = a; item = i } ∷ []))) is in
-        subst (Refusal lent before a) (sym (full .0)) (for-rows i (full .1))
+        subst (Refusal lent before a) (sym (full .0)) (for-rows i e (full .1))
 
-abbrev entriesIn : List Read → List Entry
-entriesIn l = map (λ (y : Read). y .entry) l
+judged-one : (l : List Read) (x : Read) → AllJudged l → judge (x .entry) ≡ item (x .item) → AllJudged (l ++ (x ∷ []))
+judged-one [] x h j = (j, tt)
+judged-one (y ∷ l) x h j = (h .0, judged-one l x (h .1) j)
+
+-- an entry more
+entries-one : (l : List Read) (x : Read) (later : List Entry) → entriesIn (l ++ (x ∷ [])) ++ later ≡ entriesIn l ++ (x .entry ∷ later)
+entries-one l x later =
+    ap (λ (m : List Entry). m ++ later) (map-append (λ (y : Read). y .entry) l (x ∷ [])) ∙ append-assoc (entriesIn l) (x .entry ∷ []) later
 
 module _ (size own : ℕ) (lent : Lent) (all : List Entry) where
   -- of an entry behind those that were scanned
-  entry-cause : (before : List Read) (a : Entry) (later : List Entry) → entriesIn before ++ (a ∷ later) ≡ all → {n : ℕ} → Refusal lent before a n
-      → Cause size own lent all n (a .start)
-  entry-cause before a later done (by-itself which is) =
+  entry-cause : (before : List Read) (a : Entry) (later : List Entry) → entriesIn before ++ (a ∷ later) ≡ all → AllJudged before
+      → {n : ℕ} → Refusal lent before a n → Cause size own lent all n (a .start)
+  entry-cause before a later done judged (by-itself which is) =
       by-entry which a (subst (List·Memᴰ a) done (Memᴰ·append-right (entriesIn before) (List·Memᴰ·head refl))) is
-  entry-cause before a later done (for-rows i full) = by-rows before (record { entry = a; item = i }) later done full
+  entry-cause before a later done judged (for-rows i is full) =
+      let x : Read = record { entry = a; item = i } in
+      by-rows before x later (entries-one before x later ∙ done) (judged-one before x judged is) full
 
-  scan-refused : (before : List Read) (later : List Entry) → entriesIn before ++ later ≡ all → AllFine size own before later → {n p : ℕ}
-      → scan size own lent before later ≡ refusedAt n p → Cause size own lent all n p
+  scan-refused : (before : List Read) (later : List Entry) → entriesIn before ++ later ≡ all → AllJudged before → AllFine size own before later
+      → {n p : ℕ} → scan size own lent before later ≡ refusedAt n p → Cause size own lent all n p
   unfolding scan
-  scan-refused before [] done fine h = let z : _≡_ {A = ℕ} 0 1 = cc in absurd (omega arith)
-  scan-refused before (a ∷ later) done fine {n} {p} h =
+  scan-refused before [] done judged fine h = let z : _≡_ {A = ℕ} 0 1 = cc in absurd (omega arith)
+  scan-refused before (a ∷ later) done judged fine {n} {p} h =
       from (entryCheck size own lent before a) refl
-      (λ x same is on.
-      scan-refused (before ++ (x ∷ [])) later (is ∙ done) (subst (λ (l : List Read). AllFine size own l later) same (fine .1)) on)
+      (λ i is same on.
+      scan-refused (before ++ (record { entry = a; item = i } ∷ [])) later (entries-one before (record { entry = a; item = i }) later ∙ done)
+      (judged-one before (record { entry = a; item = i }) judged is) (subst (λ (l : List Read). AllFine size own l later) same (fine .1)) on)
     where
       from : (j : Judged) → entryCheck size own lent before a ≡ j
-          → ((x : Read) → before ++ readOf a ≡ before ++ (x ∷ []) → entriesIn (before ++ (x ∷ [])) ++ later ≡ entriesIn before ++ (a ∷ later)
-          → scan size own lent (before ++ (x ∷ [])) later ≡ refusedAt n p → Cause size own lent all n p)
+          → ((i : Item) → judge a ≡ item i → before ++ readOf a ≡ before ++ (record { entry = a; item = i } ∷ [])
+          → scan size own lent (before ++ (record { entry = a; item = i } ∷ [])) later ≡ refusedAt n p → Cause size own lent all n p)
           → Cause size own lent all n p
       from (refuse m) e rest =
           let both : refusedAt m (a .start) ≡ refusedAt n p = rw e at h in
           let number : m ≡ n = cc in
           let start : a .start ≡ p = cc in
           subst (λ (n : ℕ). Cause size own lent all n p) number
-          (subst (Cause size own lent all m) start (entry-cause before a later done (entry-refused size own lent before a (fine .0) e)))
+          (subst (Cause size own lent all m) start (entry-cause before a later done judged (entry-refused size own lent before a (fine .0) e)))
       from (item i) e rest =
-          let x : Read = record { entry = a; item = i } in
-          let on : scan size own lent (before ++ (x ∷ [])) later ≡ refusedAt n p = rw e at h in
-          rest x (ap (λ (m : List Read). before ++ m) (read-judged a (check-item size own lent before a e)))
-          (ap (λ (l : List Entry). l ++ later) (map-append (λ (y : Read). y .entry) before (x ∷ [])) ∙ append-assoc (entriesIn before) (a ∷ []) later) on
+          let is : judge a ≡ item i = check-item size own lent before a e in
+          let on : scan size own lent (before ++ (record { entry = a; item = i } ∷ [])) later ≡ refusedAt n p = rw e at h in
+          rest i is (ap (λ (m : List Read). before ++ m) (read-judged a is)) on
 
 -- ---- A scan that is not refused: its entries are of that kind
 
@@ -281,54 +289,37 @@ bad-undecoded (x ∷ l) {p} h = by (λ g. later-undecoded x (bad-undecoded l g))
     by later isState is y e = later (rw is at h)
     by later (isCommit c) is y e = later (rw is at h)
 
--- what is pending was read
-pick-there : (t : Bool) (l m : List Read) {x : Read} → List·Memᴰ x (pick t l m) → List·Memᴰ x l ⊎ List·Memᴰ x m
-unfolding pick
-pick-there true l m h = inl h
-pick-there false l m h = inr h
-
-pending-there : (l : List Read) {x : Read} → List·Memᴰ x (pending l) → List·Memᴰ x l
-unfolding pending
-pending-there [] h = h
-pending-there (y ∷ l) {x} h = by (λ m. List·Memᴰ·tail (pending-there l m))
+-- what a scan that is not refused has read
+scan-judged : (size own : ℕ) (lent : Lent) (before : List Read) (later : List Entry) {l : List Read} → scan size own lent before later ≡ scanned l
+    → AllJudged before → (entriesIn l ≡ entriesIn before ++ later) × AllJudged l
+unfolding scan
+scan-judged size own lent before [] {l} h judged =
+    let same : before ≡ l = cc in
+    (ap entriesIn (sym same) ∙ sym (append-nil (entriesIn before)), subst AllJudged same judged)
+scan-judged size own lent before (a ∷ later) {l} h judged =
+    from (entryCheck size own lent before a) refl
+    (λ i is on. scan-judged size own lent (before ++ (record { entry = a; item = i } ∷ [])) later on (judged-one before (record { entry = a; item = i }) judged is))
   where
-    by : (List·Memᴰ x (pending l) → List·Memᴰ x (y ∷ l)) → List·Memᴰ x (y ∷ l)
-    by later =
-        ⊎-elim
-        (λ m.
-        ⊎-elim
-        (λ n. ⊎-elim (λ (e : x ≡ y). List·Memᴰ·head e) later (List·Memᴰ·cases-cons n))
-        later
-        (pick-there (allLeave (y .entry .start) l) (y ∷ pending l) (pending l) m))
-        later
-        (pick-there (canBePending (y .item)) (pick (allLeave (y .entry .start) l) (y ∷ pending l) (pending l)) (pending l) h)
-
--- what was read is an entry of the log, as it is judged
-read-there : (a : Entry) {x : Read} → List·Memᴰ x (readOf a) → (x .entry ≡ a) × (judge (x .entry) ≡ item (x .item))
-read-there a {x} h = from (judge a) refl
-  where
-    from : (j : Judged) → judge a ≡ j → (x .entry ≡ a) × (judge (x .entry) ≡ item (x .item))
-    from (refuse n) e = absurd (List·Memᴰ·not-nil (subst (List·Memᴰ x) (read-refused a e) h))
-    from (item i) e =
-        let is : x ≡ record { entry = a; item = i } = List·Memᴰ·eq-of-singleton (subst (List·Memᴰ x) (read-judged a e) h) in
-        let same : x .entry ≡ a = ap (λ (y : Read). y .entry) is in
-        (same, ap judge same ∙ e ∙ ap (λ (y : Read). item (y .item)) (sym is))
-
-reads-there : (entries : List Entry) {x : Read} → List·Memᴰ x (readsOf entries) → List·Memᴰ (x .entry) entries × (judge (x .entry) ≡ item (x .item))
-unfolding readsOf gather
-reads-there [] h = absurd (List·Memᴰ·not-nil h)
-reads-there (a ∷ later) h =
-    ⊎-elim
-    (λ m. let at = read-there a m in (List·Memᴰ·head (at .0), at .1))
-    (λ m. let at = reads-there later m in (List·Memᴰ·tail (at .0), at .1))
-    (List·Memᴰ·append-cases (readOf a) h)
+    from : (j : Judged) → entryCheck size own lent before a ≡ j
+        → ((i : Item) → judge a ≡ item i → scan size own lent (before ++ (record { entry = a; item = i } ∷ [])) later ≡ scanned l
+        → (entriesIn l ≡ entriesIn (before ++ (record { entry = a; item = i } ∷ [])) ++ later) × AllJudged l)
+        → (entriesIn l ≡ entriesIn before ++ (a ∷ later)) × AllJudged l
+    from (refuse n) e rest =
+        let both : refusedAt n (a .start) ≡ scanned l = rw e at h in
+        let z : _≡_ {A = ℕ} 0 1 = cc in
+        absurd (omega arith)
+    from (item i) e rest =
+        let on : scan size own lent (before ++ (record { entry = a; item = i } ∷ [])) later ≡ scanned l = rw e at h in
+        let r = rest i (check-item size own lent before a e) on in
+        (r .0 ∙ entries-one before (record { entry = a; item = i }) later, r .1)
 
 -- ---- Recovery
 
 module _ (size own : ℕ) (lent : Lent) (entries : List Entry) where
-  decoded-refused : (w : Stop) (e : ℕ) (l : List Read) {n p : ℕ} → l ≡ readsOf entries → decoded w e l ≡ refused n p → Cause size own lent entries n p
+  decoded-refused : (w : Stop) (e : ℕ) (l : List Read) {n p : ℕ} → entriesIn l ≡ entries → AllJudged l → decoded w e l ≡ refused n p
+      → Cause size own lent entries n p
   unfolding decoded
-  decoded-refused w e l {n} {p} reads h = from (badPayload (pending l)) refl
+  decoded-refused w e l {n} {p} these judged h = from (badPayload (pending l)) refl
     where
       from : (o : Option ℕ) → badPayload (pending l) ≡ o → Cause size own lent entries n p
       from none f =
@@ -340,10 +331,8 @@ module _ (size own : ℕ) (lent : Lent) (entries : List Entry) where
           let number : 11 ≡ n = cc in
           let place : q ≡ p = cc in
           let u = bad-undecoded (pending l) f in
-          let at = reads-there entries (subst (List·Memᴰ (u .read)) reads (pending-there l (u .there))) in
           subst (λ (n : ℕ). Cause size own lent entries n p) number
-          (subst (Cause size own lent entries 11) (u .start ∙ place)
-          (by-payload (u .read .entry) (at .0) (at .1 ∙ ap (λ (i : Item). item i) (u .is)) (u .undecoded)))
+          (subst (Cause size own lent entries 11) (u .start ∙ place) (by-payload l these judged (u .read) (u .there) (u .is) (u .undecoded)))
 
   replay-refused : AllFine size own [] entries → (word : Stop) (end : ℕ) {n p : ℕ}
       → replayed size own lent (record { entries = entries; ending = stopped word end }) ≡ refused n p → Cause size own lent entries n p
@@ -359,10 +348,11 @@ module _ (size own : ℕ) (lent : Lent) (entries : List Entry) where
           let number : m ≡ n = cc in
           let place : q ≡ p = cc in
           subst (λ (n : ℕ). Cause size own lent entries n p) number
-          (subst (Cause size own lent entries m) place (scan-refused size own lent entries [] entries refl fine s))
+          (subst (Cause size own lent entries m) place (scan-refused size own lent entries [] entries refl tt fine s))
       from (scanned l) s =
           let both : decoded word end l ≡ refused n p = rw s at whole in
-          decoded-refused word end l (scan-reads size own lent [] entries s) both
+          let read = scan-judged size own lent [] entries s tt in
+          decoded-refused word end l (read .0) (read .1) both
 
   pub recover-refused : AllFine size own [] entries → (word : Stop) (end : ℕ) {n p : ℕ}
       → unless (committeeCheck size own) (λ m. refused m 0) (replayed size own lent (record { entries = entries; ending = stopped word end })) ≡ refused n p

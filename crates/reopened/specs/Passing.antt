@@ -54,7 +54,8 @@ abbrev pub AllThere : ℕ → Store → List (List ℕ) → Type 0
 AllThere k log [] = Unit {0}
 AllThere k log (row ∷ rows) = There k log row × AllThere k log rows
 
--- Every row of a store of `Made` names a block that is in the log, whole, at the row's position: no lookup meets a read's numbers, 8, 9 or 10.
+-- Every row of a store of `Made` names a block that is in the log, whole, at the row's position: no lookup is refused for an indexed block that it
+-- reads.
 abbrev pub Found : Type 0
 Found =
     (k : ℕ) → 6 ≤ k → k ≤ 28 → (size own : ℕ) (log : Store) (s : BlockStore) (index : List ℕ) → Made k size own log s index

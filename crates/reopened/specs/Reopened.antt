@@ -1,6 +1,6 @@
 -- A store and its log say the same: whatever log a node starts from, and whatever calls of the store come then, the index that recovery of
--- the log gives is the store's, loaded flags and loads aside. Document 01: "Insert (a block's bytes .. logged and indexed)"; "Index: reference
--- to latest position, all unloaded".
+-- the log gives, where it is not refused, is the store's, loaded flags and loads aside. Document 01: "Insert (a block's bytes .. logged and
+-- indexed)"; "Index: reference to latest position, all unloaded".
 use mathlib.Core.Path.{_≡_}
 use mathlib.Core.Logic.{_⊎_}
 use mathlib.Core.List.{List, [], _∷_, _++_, map, List·Memᴰ}
@@ -10,6 +10,7 @@ use Rattle.laws.specs.Bytes.{AllBytes}
 use Rattle.laws.specs.Parse.{bad}
 use Rattle.types.specs.Records.{payload}
 use Rattle.replay.specs.Items.{isPayload, refuse, item, judge, Read}
+use Rattle.replay.specs.Rules.{pending}
 use Rattle.replay.specs.Recovery.{Lent, committeeCheck, rowsCheck, recover, refused, recovered}
 use Rattle.wal.specs.Entries.{Entry}
 use Rattle.wal.specs.Walk.{Stop, walk}
@@ -24,8 +25,8 @@ use Rattle.insert.specs.Insert.{Inserts}
 use Rattle.cut.specs.PlainLog.{Append}
 use Rattle.cut.specs.Cut.{Store, next}
 
--- The logs that a node can come to, each with its store and the table of its index. A refused append, insert, cleanup or lookup changes
--- nothing, and a refused recovery makes no store.
+-- The logs that a node can come to, each with its store and the table of its index; k, size and own are the same throughout. A refused append,
+-- insert, cleanup or lookup changes neither log, store nor index, and a store that is opened from a refused recovery is not meant.
 pub data Made (k size own : ℕ) : Store → BlockStore → List ℕ → Type 0 where
   -- an empty log in an image of whatever bytes, and no block yet, in index rows of whatever words
   new : (image index : List ℕ) → Made k size own (record { used = 0; image = image }) (openedOf size own emptyReplay) index
@@ -73,6 +74,14 @@ Reopened =
     → (lent : Lent) (word : Stop) (e : ℕ) (l : List Read) → recover k (log .image) (log .used) size own lent ≡ recovered word e l
     → Mirrors size own l s index
 
+-- each entry is judged as this item
+abbrev pub AllJudged : List Read → Type 0
+AllJudged [] = Unit {0}
+AllJudged (x ∷ l) = (judge (x .entry) ≡ item (x .item)) × AllJudged l
+
+abbrev pub entriesIn : List Read → List Entry
+entriesIn l = map (λ (x : Read). x .entry) l
+
 -- Why such a recovery is refused, with its number and start: for entries that are no blocks, for the tables or for the committee. Never for a
 -- block (9, 10, 13, 14) or for damage (5, 6, 7). `entries` are those that the walk lists.
 pub data Cause (size own : ℕ) (lent : Lent) (entries : List Entry) : ℕ → ℕ → Type 0 where
@@ -81,10 +90,11 @@ pub data Cause (size own : ℕ) (lent : Lent) (entries : List Entry) : ℕ → �
   -- 8 or 12: an entry with this tag, or a commit that does not decode
   by-entry : {n : ℕ} → (n ≡ 8) ⊎ (n ≡ 12) → (a : Entry) → List·Memᴰ a entries → judge a ≡ refuse n → Cause size own lent entries n (a .start)
   -- 15: the rows of the entries up to x do not fit
-  by-rows : (before : List Read) (x : Read) (later : List Entry) → map (λ (y : Read). y .entry) before ++ (x .entry ∷ later) ≡ entries
+  by-rows : (before : List Read) (x : Read) (later : List Entry) → entriesIn (before ++ (x ∷ [])) ++ later ≡ entries → AllJudged (before ++ (x ∷ []))
       → rowsCheck lent (before ++ (x ∷ [])) ≡ 15 → Cause size own lent entries 15 (x .entry .start)
-  -- 11: a payload that does not decode
-  by-payload : (a : Entry) → List·Memᴰ a entries → judge a ≡ item isPayload → payload (a .payload) 0 ≡ bad → Cause size own lent entries 11 (a .start)
+  -- 11: a payload that is still pending does not decode
+  by-payload : (l : List Read) → entriesIn l ≡ entries → AllJudged l → (x : Read) → List·Memᴰ x (pending l) → x .item ≡ isPayload
+      → payload (x .entry .payload) 0 ≡ bad → Cause size own lent entries 11 (x .entry .start)
 
 abbrev pub Refusals : Type 0
 Refusals =

@@ -62,7 +62,8 @@ getTransaction k image used store index locator =
     transactionAnswer (callCheck k used (length image) store index) k image used store (locator .offset)
     (byReference (locator .block) (indexed store index))
 
--- ---- The transaction as bytes: what an answer names is that (proofs/Named.antt, `share-named` and `transaction-named`)
+-- ---- The transaction as bytes: `named` of an answer is `transactionIn` of the block's statements (proofs/Named.antt, `share-named`,
+-- `transaction-named`)
 
 -- "only a Share gives one"
 unfoldable pub shareBytes : StatementValue → Option (List ℕ)

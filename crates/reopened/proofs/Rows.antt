@@ -73,7 +73,7 @@ module _ (t : List ℕ) (count : ℕ) (fits : 8 * count ≤ length t) (ascends :
 -- a row's key does not tell whether it is loaded
 pub key-unloaded : (r : List ℕ) → key (unloadedRow r) ≡ key r
 unfolding key unloadedRow
-key-unloaded r = take-set-le 6 r 7 0 (omega arith)
+key-unloaded r = take-set-le 6 r _ 0 (omega arith)
 
 pub put-unloaded : (row : List ℕ) (rows : List (List ℕ)) → map unloadedRow (putRow row rows) ≡ putRow (unloadedRow row) (map unloadedRow rows)
 unfolding putRow

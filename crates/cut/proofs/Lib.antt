@@ -4,6 +4,7 @@ pub mod Layouts
 pub mod Appending
 pub mod Fields
 pub mod Kept
+pub mod Standing
 pub mod Reading
 pub mod Growing
 pub mod Recovering

@@ -1,5 +1,5 @@
 -- The walk over the first c bytes of a log lists the entries that end by c, and names the end of the last. Assumes nothing.
-use mathlib.Core.Path.{_≡_, refl, sym, ap, _∙_}
+use mathlib.Core.Path.{_≡_, refl, sym, ap, _∙_, subst}
 use mathlib.Core.Logic.{inl, inr}
 use mathlib.Core.List.{List, [], _++_, append-assoc}
 use Prim.Native.Nat.{ℕ, _+_, _-_, _^_, _≤_, _<_}
@@ -8,7 +8,7 @@ use lib.Dec.{eqb}
 use lib.ListN.{length, take, drop}
 use borrow.Author.Tests.{ne-eqb}
 use Rattle.laws.specs.Pick.{pick}
-use Rattle.laws.specs.Bytes.{bytesAt, zeros}
+use Rattle.laws.specs.Bytes.{zeros}
 use Rattle.laws.proofs.Tests.{leb-cases}
 use Rattle.laws.proofs.Written.{length-zeros}
 use Rattle.checksum.specs.Crc32.{crc32}
@@ -16,16 +16,17 @@ use Rattle.entry.specs.Entry.{entryBytes, checksumAt, lengthAt, tagAt, payloadA
 use Rattle.wal.specs.Region.{regionStart, nextRegion}
 use Rattle.wal.specs.Checks.{logCheck, unless}
 use Rattle.wal.specs.Look.{whole, lookAt}
-use Rattle.wal.specs.Read.{readOf, readAt}
 use Rattle.wal.specs.Entries.{Entry, endOf}
 use Rattle.wal.specs.Walk.{Stop, Walk, END, ZEROS, TORN, stop, go, list, move, moveAt, walkAt, listing, stopped, walk}
-use Rattle.wal.specs.Answers.{entryOf, payloadOf, foundOf, walkedOf}
+use Rattle.wal.specs.Answers.{walkedOf}
+use Rattle.wal.proofs.Checks.{passed-sound}
 use Rattle.wal.proofs.Regions.{size-most}
 use Rattle.wal.proofs.Steps.{walk-by-steps}
 use Rattle.wal.proofs.Looks.{look-past, look-region-full, look-no-header, look-blank, look-cut, look-whole}
 use Rattle.wal.proofs.Walks.{walk-stop, walk-go, walk-list}
 use Rattle.cut.specs.PlainLog.{Log, bytesFrom, logBytes}
-use Rattle.cut.specs.Cut.{endingBy, lastEnd, Holds, kept, resumeAt, Stands, AllStand, ReadsBack}
+use Rattle.cut.specs.Cut.{endingBy, lastEnd, Holds, kept, resumeAt, AllStand, ReadsBack}
+use Rattle.cut.proofs.Standing.{walk-stands}
 use Rattle.cut.proofs.Lists.{drop-past}
 use Rattle.cut.proofs.PlainLogs.{no-refusal}
 use Rattle.cut.proofs.Layouts.{start-cases, start-within, Behind, Laid, laid-none, laid-next, behind, end-ahead, own, length-own, LaidLog}
@@ -85,17 +86,6 @@ module _ (k : ℕ) (most : k ≤ 28) (image bytes : List ℕ) (c : ℕ) (same : 
   lists : endOf a ≤ c → moveAt k image c e (a .start) ≡ list a
   unfolding moveAt move
   lists h = ap (move k c e (a .start)) (looks h)
-
-  -- and read
-  stands : logCheck k c (length image) ≡ 0 → endOf a ≤ c → Stands k image c a
-  unfolding foundOf readAt readOf unless payloadOf entryOf payloadAt endOf
-  stands passes h =
-      let n : lengthAt image (a .start) ≡ length (a .payload) + 16 = its-length (omega arith) in
-      let len : length (a .payload) ≡ lengthAt image (a .start) - 16 = omega arith in
-      record {
-        reads = rw (passes, looks h);
-        payload = ap (bytesAt image (a .start + 16)) len ∙ its-payload h;
-      }
 
   -- and torn where c lies within it
   torn : a .start < c → c < endOf a → moveAt k image c e (a .start) ≡ stop TORN
@@ -190,18 +180,6 @@ module _ (k : ℕ) (most : k ≤ 28) (image bytes : List ℕ) (c : ℕ) (same : 
             (end .0, rw (none-more c a laid (ends .1)) (end .1))
       ]
 
-module _ (k : ℕ) (most : k ≤ 28) (image bytes : List ℕ) (c : ℕ) (same : take c image ≡ take c bytes) (passes : logCheck k c (length image) ≡ 0) where
-  all-stand : {e : ℕ} {es : List Entry} → Laid k e es → drop e bytes ≡ bytesFrom e es → AllStand k image c (take (endingBy c es) es)
-  unfolding bytesFrom endingBy
-  all-stand laid-none at = tt
-  all-stand (laid-next {e = e} {a = a} {rest = rest} put laid) at =
-      let after : List ℕ = bytesFrom (endOf a) rest in
-      let more : drop (endOf a) bytes ≡ after = drop-past bytes e (endOf a) (own e a) after at (sym (length-own e a (behind put))) in
-      elim (leb-cases (endOf a) c) [
-        | inl by ↦ rw (one-more c a rest (by .1)) (stands k most image bytes c same e a after put at passes (by .1), all-stand laid more)
-        | inr ends ↦ rw (none-more c a laid (ends .1)) tt
-      ]
-
 -- ---- The whole log
 
 pub reads-back : (k : ℕ) → 6 ≤ k → k ≤ 28 → (log : Log) → LaidLog k log → log .end ≤ 2 ^ 40
@@ -216,5 +194,5 @@ reads-back k least most log laid below c found by holds =
       by-steps = walk-by-steps k found c;
       reads = whole;
       calls = ap (λ (w : Walk). walkedOf c (w .ending)) whole;
-      stands = all-stand k most found (logBytes log) c (holds .same) passes (laid .laid) refl;
+      stands = subst (λ (w : Walk). AllStand k found c (w .entries)) (r .1) (walk-stands k found c (passed-sound k c (length found) passes));
     }

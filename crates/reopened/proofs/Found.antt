@@ -1,25 +1,19 @@
 -- The theorem: every block that the index of a store names is in its log. Assumes nothing.
-use mathlib.Core.Path.{_≡_, refl, sym, ap, _∙_, subst}
+use mathlib.Core.Path.{_≡_, sym, ap, _∙_, subst}
 use mathlib.Core.List.{List, [], _∷_, map}
-use mathlib.Core.Logic.{⊎-elim}
-use mathlib.Core.Option.{some}
 use Prim.Native.Nat.{ℕ, _+_, _-_}
 use native.Mathlib.Omega.{arith}
 use lib.ListN.{length, getD}
 use lib.Seq.{getD-set-other}
+use borrow.Author.Tests.{eq-eqb, ne-eqb}
 use Rattle.laws.specs.Pick.{pick}
-use Rattle.laws.specs.Parse.{Res, bad, answer}
-use Rattle.laws.specs.Parse as parse
-use Rattle.laws.proofs.Tests.{eqb-cases}
+use Rattle.laws.specs.Parse.{answer}
 use Rattle.types.specs.declared.BlockReference.{BlockReference}
-use Rattle.types.specs.Records.{BlockValue, block}
-use Rattle.commits.specs.Records.{OwnBlockValue, ownBlock}
 use Rattle.wal.specs.Entries.{Entry}
 use Rattle.wal.specs.Walk.{Walk}
 use Rattle.wal.specs.Answers.{entryOf, payloadOf}
 use Rattle.rows.specs.Rows.{key}
 use Rattle.index.specs.Keys.{keyWords, digestWords, indexRow}
-use Rattle.replay.specs.Items.{Item, isBlock, isOwnBlock, refuse, item, judge, blockIn}
 use Rattle.replay.specs.Rules.{Block, index}
 use Rattle.state.specs.Tables.{blockRow}
 use Rattle.state.proofs.Rows.{key-blockRow}
@@ -33,23 +27,11 @@ use Rattle.reopened.specs.Reopened.{unloadedRow}
 use Rattle.reopened.specs.Passing.{There, AllThere, Found}
 use Rattle.reopened.proofs.Judging.{readsOf}
 use Rattle.reopened.proofs.Rows.{key-unloaded}
-use Rattle.reopened.proofs.References.{Every, OfBlock, OfBlocks, index-every, no-block-holds}
-use Rattle.reopened.proofs.Walked.{walk-stands}
+use Rattle.reopened.proofs.References.{Every, OfBlock, OfBlocks, index-every, InEntry, as-block, as-own, judged-in}
+use Rattle.cut.proofs.Standing.{walk-stands}
 use Rattle.reopened.proofs.Reopened.{Carries, carries}
 
 -- ---- The block in an entry, as a lookup reads it
-
--- of what a parser found
-made-read : {A : Type 0} (x : Res A) (n m at len : ℕ) (make : A → Item) (refers : A → BlockReference) → ((v : A) → blockIn (make v) ≡ some (refers v))
-    → (i : Item) (r : BlockReference) → answer (refuse n) (λ v e. item (make v)) x ≡ item i → blockIn i ≡ some r
-    → answer (lookups.BlockRead.refused m) (λ v e. got (refers v) at len) x ≡ got r at len
-unfolding answer
-made-read bad n m at len make refers holds i r is there = let z : _≡_ {A = ℕ} 0 1 = cc in absurd (omega arith)
-made-read (parse.Res.got v e) n m at len make refers holds i r is there =
-    let made : make v ≡ i = cc in
-    let same : some (refers v) ≡ some r = sym (holds v) ∙ ap blockIn made ∙ there in
-    let reference : refers v ≡ r = cc in
-    ap (λ (r : BlockReference). got r at len) reference
 
 -- a block with this reference
 record Holds (x : BlockRead) (r : BlockReference) : Type 0 where
@@ -57,46 +39,23 @@ record Holds (x : BlockRead) (r : BlockReference) : Type 0 where
   len : ℕ
   is : x ≡ got r at len
 
-module _ (start : ℕ) (payload : List ℕ) (i : Item) (r : BlockReference) where
-  read-block : judge (record { start = start; tag = 1; payload = payload }) ≡ item i → blockIn i ≡ some r
-      → Holds (lookups.blockIn (record { start = start; tag = 1; payload = payload })) r
-  unfolding judge pick blockIn lookups.blockIn plainBlock
-  read-block is there =
-      record {
-        at = start + 16;
-        len = length payload;
-        is = made-read (block payload 0) 9 9 (start + 16) (length payload) (λ (b : BlockValue). isBlock (b .reference)) (λ b. b .reference) (λ b. refl) i r is there;
-      }
-
-  read-own : judge (record { start = start; tag = 3; payload = payload }) ≡ item i → blockIn i ≡ some r
-      → Holds (lookups.blockIn (record { start = start; tag = 3; payload = payload })) r
-  unfolding judge pick blockIn lookups.blockIn ownBlockAt
-  read-own is there =
-      record {
-        at = start + 16 + 8;
-        len = length payload - 8;
-        is =
-            made-read (ownBlock payload 0) 10 10 (start + 16 + 8) (length payload - 8)
-            (λ (o : OwnBlockValue). isOwnBlock (o .nextEntry) (o .block .reference)) (λ o. o .block .reference) (λ o. refl) i r is there;
-      }
-
--- whatever its tag
-read-holds : (a : Entry) → (i : Item) (r : BlockReference) → judge a ≡ item i → blockIn i ≡ some r → Holds (lookups.blockIn a) r
-read-holds a i r is there =
-    ⊎-elim
-    (λ one.
-    let same : a ≡ record { start = a .start; tag = 1; payload = a .payload } = λ j. record { start = a .start; tag = one .1 j; payload = a .payload } in
-    subst (λ (a : Entry). Holds (lookups.blockIn a) r) (sym same)
-    (read-block (a .start) (a .payload) i r (ap judge (sym same) ∙ is) there))
-    (λ not-one.
-    ⊎-elim
-    (λ three.
-    let same : a ≡ record { start = a .start; tag = 3; payload = a .payload } = λ j. record { start = a .start; tag = three .1 j; payload = a .payload } in
-    subst (λ (a : Entry). Holds (lookups.blockIn a) r) (sym same)
-    (read-own (a .start) (a .payload) i r (ap judge (sym same) ∙ is) there))
-    (λ not-three. no-block-holds (λ (b : Block). Holds (lookups.blockIn a) (b .reference)) a (not-one .1) (not-three .1) i r is there)
-    (eqb-cases (a .tag) 3))
-    (eqb-cases (a .tag) 1)
+read-holds : (a : Entry) {r : BlockReference} → InEntry a r → Holds (lookups.blockIn a) r
+unfolding lookups.blockIn plainBlock ownBlockAt pick answer
+read-holds a {r} (as-block one b e decodes same) =
+    record {
+      at = a .start + 16;
+      len = length (a .payload);
+      is = rw (eq-eqb (a .tag) 1 one, decodes) (ap (λ (r : BlockReference). got r (a .start + 16) (length (a .payload))) same);
+    }
+read-holds a {r} (as-own three o e decodes same) =
+    let not-one : a .tag ≡ 1 → ⊥ = λ one. omega arith in
+    record {
+      at = a .start + 16 + 8;
+      len = length (a .payload) - 8;
+      is =
+          rw (ne-eqb (a .tag) 1 not-one, eq-eqb (a .tag) 3 three, decodes)
+          (ap (λ (r : BlockReference). got r (a .start + 16 + 8) (length (a .payload) - 8)) same);
+    }
 
 -- ---- In the log
 
@@ -110,7 +69,7 @@ module _ (k : ℕ) (log : Store) where
       let same : lookups.blockIn a ≡ blockAt k (log .image) (log .used) (a .start) =
       ap (λ (payload : List ℕ). lookups.blockIn (record { start = a .start; tag = a .tag; payload = payload })) (sym (stands .payload))
       ∙ read-found k (log .image) (log .used) (a .start) {e = entryOf a} (sym (stands .reads)) in
-      subst (λ (x : BlockRead). Holds x r) same (read-holds a i r is there)
+      subst (λ (x : BlockRead). Holds x r) same (read-holds a (judged-in a i r is there))
 
   entries-there : (entries : List Entry) → AllStand k (log .image) (log .used) entries → OfBlocks IsThere entries
   entries-there [] h = tt

@@ -3,7 +3,6 @@ pub mod Rows
 pub mod Mirroring
 pub mod Refusing
 pub mod References
-pub mod Walked
 pub mod Passing
 pub mod Reopened
 pub mod Kept

@@ -5,14 +5,17 @@ use mathlib.Core.Logic.{⊎-elim}
 use mathlib.Core.Option.{Option, none, some}
 use Prim.Native.Nat.{ℕ, _<_}
 use native.Mathlib.Omega.{arith}
+use borrow.Author.Tests.{ne-eqb}
 use Rattle.laws.specs.Pick.{pick}
 use Rattle.laws.specs.Bytes.{AllBytes}
 use Rattle.laws.specs.Parse.{Res, bad, got, answer}
+use Rattle.laws.proofs.AllBytes.{bytes-part}
 use Rattle.laws.proofs.Tests.{leb-cases, eqb-cases}
 use Rattle.types.specs.declared.BlockReference.{BlockReference}
 use Rattle.types.specs.Records.{BlockValue, block}
 use Rattle.commits.specs.Records.{OwnBlockValue, ownBlock}
 use Rattle.wal.specs.Entries.{Entry}
+use Rattle.wal.specs.Answers.{payloadOf}
 use Rattle.rows.proofs.Lexicographic.{order-cases}
 use Rattle.index.specs.Keys.{Digested}
 use Rattle.replay.specs.Items.{Item, isBlock, isOwnBlock, Judged, refuse, item, judge, Read, blockIn}
@@ -22,6 +25,7 @@ use Rattle.replay.proofs.Sets.{order}
 use Rattle.replay.proofs.Applied.{insertRow, insertRow-below, insertRow-equal, insertRow-above, references, index-same, index-block}
 use Rattle.state.specs.Holding.{AllDigested}
 use Rattle.state.proofs.Digests.{block-digested, own-digested}
+use Rattle.cut.specs.Cut.{AllStand}
 use Rattle.reopened.proofs.Judging.{readOf, readsOf, read-refused, read-judged}
 use Rattle.reopened.proofs.Mirroring.{item-no-block, Holds}
 use Rattle.reopened.proofs.Refusing.{AllFine}
@@ -116,6 +120,46 @@ module _ (Q : Block → Type 0) where
   unfolding index blocks gather setOf
   index-every entries h = index-all [] entries h tt
 
+-- ---- The block in an entry, by how it is judged
+
+pub data InEntry (a : Entry) (r : BlockReference) : Type 0 where
+  as-block : a .tag ≡ 1 → (b : BlockValue) (e : ℕ) → block (a .payload) 0 ≡ got b e → b .reference ≡ r → InEntry a r
+  as-own : a .tag ≡ 3 → (o : OwnBlockValue) (e : ℕ) → ownBlock (a .payload) 0 ≡ got o e → o .block .reference ≡ r → InEntry a r
+
+-- an item that is made of what a parser found
+made-found : {A : Type 0} (x : Res A) (n : ℕ) (make : A → Item) (refers : A → BlockReference) → ((v : A) → blockIn (make v) ≡ some (refers v))
+    → (i : Item) (r : BlockReference) → answer (refuse n) (λ v e. item (make v)) x ≡ item i → blockIn i ≡ some r
+    → (v : A) × (e : ℕ) × (x ≡ got v e) × (refers v ≡ r)
+unfolding answer
+made-found bad n make refers holds i r is there = let z : _≡_ {A = ℕ} 0 1 = cc in absurd (omega arith)
+made-found (got v e) n make refers holds i r is there =
+    let made : make v ≡ i = cc in
+    let same : some (refers v) ≡ some r = sym (holds v) ∙ ap blockIn made ∙ there in
+    (v, e, refl, cc)
+
+pub judged-in : (a : Entry) (i : Item) (r : BlockReference) → judge a ≡ item i → blockIn i ≡ some r → InEntry a r
+unfolding judge pick blockIn
+judged-in a i r is there =
+    ⊎-elim
+    (λ one.
+    let f =
+    made-found (block (a .payload) 0) 9 (λ (b : BlockValue). isBlock (b .reference)) (λ b. b .reference) (λ b. refl) i r (rw (one .0) at is) there in
+    as-block (one .1) (f .0) (f .1) (f .2) (f .3))
+    (λ not-one.
+    ⊎-elim
+    (λ three.
+    let not-two : a .tag ≡ 2 → ⊥ = λ two. omega (arith, three .1) in
+    let f =
+    made-found (ownBlock (a .payload) 0) 10 (λ (o : OwnBlockValue). isOwnBlock (o .nextEntry) (o .block .reference)) (λ o. o .block .reference) (λ o. refl)
+    i r (rw (not-one .0, ne-eqb (a .tag) 2 not-two, three .0) at is) there in
+    as-own (three .1) (f .0) (f .1) (f .2) (f .3))
+    (λ not-three.
+    let both : none ≡ some r = sym (item-no-block a (not-one .1) (not-three .1) is) ∙ there in
+    let z : _≡_ {A = ℕ} 0 1 = cc in
+    absurd (omega arith))
+    (eqb-cases (a .tag) 3))
+    (eqb-cases (a .tag) 1)
+
 -- ---- 13: the authority is below the size
 
 check-below : (size own : ℕ) (before : List Block) (r : BlockReference) → blockCheck size own before (some r) ≡ 0 → r .authority < size
@@ -141,45 +185,18 @@ AllPayloads (a ∷ later) = AllBytes (a .payload) × AllPayloads later
 abbrev pub OfBytes : Block → Type 0
 OfBytes b = Digested (b .reference)
 
--- the block of an item that is made of what a parser found
-made-digested : {A : Type 0} (x : Res A) (n : ℕ) (make : A → Item) (refers : A → BlockReference) → ((v : A) → blockIn (make v) ≡ some (refers v))
-    → ((v : A) (e : ℕ) → x ≡ got v e → Digested (refers v))
-    → (i : Item) (r : BlockReference) → answer (refuse n) (λ v e. item (make v)) x ≡ item i → blockIn i ≡ some r → Digested r
-unfolding answer
-made-digested bad n make refers holds digested i r is there = let z : _≡_ {A = ℕ} 0 1 = cc in absurd (omega arith)
-made-digested (got v e) n make refers holds digested i r is there =
-    let made : make v ≡ i = cc in
-    let same : some (refers v) ≡ some r = sym (holds v) ∙ ap blockIn made ∙ there in
-    let reference : refers v ≡ r = cc in
-    subst Digested reference (digested v e refl)
-
-module _ (start : ℕ) (payload : List ℕ) (all : AllBytes payload) where
-  block-bytes : OfBlock OfBytes (record { start = start; tag = 1; payload = payload })
-  unfolding judge pick blockIn
-  block-bytes =
-      made-digested (block payload 0) 9 (λ (b : BlockValue). isBlock (b .reference)) (λ b. b .reference) (λ b. refl)
-      (λ b e is. block-digested payload all 0 is)
-
-  own-bytes : OfBlock OfBytes (record { start = start; tag = 3; payload = payload })
-  unfolding judge pick blockIn
-  own-bytes =
-      made-digested (ownBlock payload 0) 10 (λ (o : OwnBlockValue). isOwnBlock (o .nextEntry) (o .block .reference)) (λ o. o .block .reference)
-      (λ o. refl) (λ o e is. own-digested payload all 0 is)
+-- in a log of bytes
+pub stand-bytes : (k : ℕ) (s : List ℕ) (used : ℕ) → AllBytes s → (entries : List Entry) → AllStand k s used entries → AllPayloads entries
+unfolding payloadOf
+stand-bytes k s used all [] h = tt
+stand-bytes k s used all (a ∷ later) h = (subst AllBytes (h .0 .payload) (bytes-part s _ _ all), stand-bytes k s used all later (h .1))
 
 entry-digested : (a : Entry) → AllBytes (a .payload) → OfBlock OfBytes a
-entry-digested a all =
-    ⊎-elim
-    (λ one.
-    subst (OfBlock OfBytes) (λ j. record { start = a .start; tag = sym (one .1) j; payload = a .payload })
-    (block-bytes (a .start) (a .payload) all))
-    (λ not-one.
-    ⊎-elim
-    (λ three.
-    subst (OfBlock OfBytes) (λ j. record { start = a .start; tag = sym (three .1) j; payload = a .payload })
-    (own-bytes (a .start) (a .payload) all))
-    (λ not-three. no-block-holds OfBytes a (not-one .1) (not-three .1))
-    (eqb-cases (a .tag) 3))
-    (eqb-cases (a .tag) 1)
+entry-digested a all i r is there = from (judged-in a i r is there)
+  where
+    from : InEntry a r → Digested r
+    from (as-block one b e decodes same) = subst Digested same (block-digested (a .payload) all 0 decodes)
+    from (as-own three o e decodes same) = subst Digested same (own-digested (a .payload) all 0 decodes)
 
 pub entries-digested : (entries : List Entry) → AllPayloads entries → OfBlocks OfBytes entries
 entries-digested [] h = tt

@@ -40,13 +40,13 @@ use Rattle.lookup.specs.Lookups.{counted}
 use Rattle.cut.specs.PlainLog.{Append}
 use Rattle.cut.specs.Cut.{Store, usedAfter, answerOf, next}
 use Rattle.cut.proofs.Growing.{walk-grows, grown-long}
+use Rattle.cut.proofs.Standing.{walk-stands}
 use Rattle.reopened.specs.Reopened.{Made, new, opens, appends, inserts, cleans, looks, lends, unloadedRow, Mirrors, Cause, Reopened, Refusals}
 use Rattle.reopened.proofs.Judging.{readOf, readsOf, read-judged, reads-one, Replayed, replay-scanned, replay-reads, unless-recovered}
 use Rattle.reopened.proofs.Rows.{cleaned-rows}
 use Rattle.reopened.proofs.Mirroring.{no-block-read, insert-holds, mirrors-block, mirrors-opened, mirrors-recovered}
 use Rattle.reopened.proofs.Refusing.{Fine, AllFine, number-checked, fine-other, fine-inserted, fine-one, scan-fine, recover-refused}
-use Rattle.reopened.proofs.References.{OfBlock, OfBlocks, OfBytes, blocks-one, no-block-holds, held-holds, every-digested, index-every, entries-digested}
-use Rattle.reopened.proofs.Walked.{walk-stands, stand-bytes}
+use Rattle.reopened.proofs.References.{OfBlock, OfBlocks, OfBytes, blocks-one, no-block-holds, held-holds, every-digested, index-every, stand-bytes, entries-digested}
 
 tag-small : (tag : ℕ) → (tag ≡ 1) ⊎ (tag ≡ 3) → tag < 2 ^ 32
 tag-small tag which = ⊎-elim (λ (one : tag ≡ 1). omega arith) (λ (three : tag ≡ 3). omega arith) which
@@ -140,7 +140,7 @@ module _ (k : ℕ) (size own : ℕ) where
               subst (λ (m : List Read). Mirrors size own m (openedOf size own (r .replay)) i′)
               (replay-reads size own (lentOf p u c i) (walkAt k image used 0 0) replays)
               (mirrors-recovered size own l used p u c i p′ u′ c′ i′ r word e answers);
-          digested = entries-digested listed (stand-bytes k image used open-sound all listed (walk-stands k image used open-sound));
+          digested = entries-digested listed (stand-bytes k image used all listed (walk-stands k image used open-sound));
           fine = scan-fine size own (lentOf p u c i) [] listed (scanned-so .scans);
         }
 

@@ -1,25 +1,22 @@
--- The entries that a walk lists, in a log of whatever bytes: each stands where it is listed, and its payload is bytes. Assumes nothing.
+-- The entries that a walk lists, in a log of whatever bytes, stand where they are listed. Assumes nothing.
 use mathlib.Core.Path.{_≡_, refl, sym, ap, _∙_, subst}
-use mathlib.Core.List.{List, [], _∷_}
+use mathlib.Core.List.{List}
 use Prim.Native.Nat.{ℕ, zero, suc, _+_, _≤_, _<_}
 use native.Mathlib.Omega.{arith}
 use lib.ListN.{length}
-use Rattle.laws.specs.Bytes.{AllBytes}
-use Rattle.laws.proofs.AllBytes.{bytes-part}
 use Rattle.checksum.specs.Crc32.{crc32}
 use Rattle.wal.specs.Checks.{unless}
 use Rattle.wal.specs.Entries.{Entry, endOf}
 use Rattle.wal.specs.Look.{whole, lookAt}
 use Rattle.wal.specs.Read.{readOf, readAt}
-use Rattle.wal.specs.Answers.{payloadOf, foundOf}
+use Rattle.wal.specs.Answers.{foundOf}
 use Rattle.wal.specs.Walk as walk
 use Rattle.wal.specs.Walk.{Walk, listing, listed, walkAt, stepFrom}
 use Rattle.wal.proofs.Checks.{Sound, sound-passes}
 use Rattle.wal.proofs.Looks.{look-whole}
 use Rattle.wal.proofs.Steps.{Ahead, step-ahead, step-listed, step-named}
 use Rattle.wal.proofs.Walks.{Listed, afterStep, walk-step}
 use Rattle.cut.specs.Cut.{Stands, AllStand}
-use Rattle.reopened.proofs.References.{AllPayloads}
 
 module _ (k : ℕ) (s : List ℕ) (used : ℕ) (sound : Sound k used (length s)) where
   look-listed : {p : ℕ} {a : Entry} → Listed k s used p a → lookAt k s used (a .start) ≡ whole a
@@ -51,8 +48,3 @@ module _ (k : ℕ) (s : List ℕ) (used : ℕ) (sound : Sound k used (length s))
 
   pub walk-stands : AllStand k s used (walkAt k s used 0 0 .entries)
   walk-stands = all-stand (suc used) 0 (omega arith) (omega arith)
-
-  pub stand-bytes : AllBytes s → (entries : List Entry) → AllStand k s used entries → AllPayloads entries
-  unfolding payloadOf
-  stand-bytes all [] h = tt
-  stand-bytes all (a ∷ later) h = (subst AllBytes (h .0 .payload) (bytes-part s _ _ all), stand-bytes all later (h .1))

@@ -10,7 +10,7 @@ use blocks::TimestampNs;
 use crypto::SignatureBytes;
 use types::BlockReference;
 use types::ZERO_REFERENCE;
-use wal::WalPosition;
+use wal_position::WalPosition;
 ghost use mathlib.Core.Path.{_≡_};
 ghost use Rattle.laws.specs.Parse.{many};
 ghost use Rattle.bincode.specs.Bincode.{vec};

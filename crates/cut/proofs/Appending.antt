@@ -6,8 +6,8 @@ use native.Mathlib.Omega.{arith}
 use lib.ListN.{length, take}
 use Rattle.laws.specs.Bytes.{written}
 use Rattle.laws.proofs.Written.{length-written, take-end-written}
-use Rattle.wal.specs.Entries.{Entry, endOf}
-use Rattle.wal.specs.Append.{Placed, accepted, refused, imageAfter}
+use Rattle.wal_reader.specs.Entries.{Entry, endOf}
+use Rattle.wal_writer.specs.Append.{Placed, accepted, refused, imageAfter}
 use Rattle.cut.specs.PlainLog.{Append, Log, noEntries, plainAnswer, joined, plainNext, plainLog, bytesFrom, logBytes}
 use Rattle.cut.specs.Cut.{Store, usedAfter, answerOf, next, after, storeSeen, plainSeen, lastEnd}
 use Rattle.cut.proofs.PlainLogs.{Accepted, plain-answer, plain-accepted}

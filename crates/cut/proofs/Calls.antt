@@ -2,9 +2,9 @@
 use mathlib.Core.Path.{_≡_, refl}
 use Prim.Native.Nat.{ℕ}
 use lib.ListN.{length}
-use Rattle.wal.specs.Append.{Placed, accepted, refused, place}
-use Rattle.wal.specs.Answers.{appendedOf, writerAfter}
-use Rattle.wal.specs.declared.writer.WalWriter.{WalWriter}
+use Rattle.wal_writer.specs.Append.{Placed, accepted, refused, place}
+use Rattle.wal_writer.specs.Answers.{appendedOf, writerAfter}
+use Rattle.wal_writer.specs.declared.WalWriter.{WalWriter}
 use Rattle.cut.specs.PlainLog.{Append}
 use Rattle.cut.specs.Cut.{Store, usedAfter, answerOf, next, writerOf, Calls}
 

@@ -7,10 +7,10 @@ use lib.ListN.{length, take, drop}
 use lib.Seq.{drop-at, length-take-le}
 use Rattle.laws.specs.Bytes.{written}
 use Rattle.laws.proofs.Written.{take-written, length-written}
-use Rattle.wal.specs.Entries.{Entry, endOf}
-use Rattle.wal.specs.Append.{accepted, place, imageAfter}
+use Rattle.wal_reader.specs.Entries.{Entry, endOf}
+use Rattle.wal_writer.specs.Append.{accepted, place, imageAfter}
 use Rattle.wal.specs.Walk.{Stop, END, listing, stopped, walkAt}
-use Rattle.wal.proofs.Places.{accepted-says}
+use Rattle.wal_writer.proofs.Places.{accepted-says}
 use Rattle.wal.proofs.Prefixes.{onwards, walk-end, walk-resumes}
 use Rattle.cut.proofs.Layouts.{Behind, own, length-own}
 use Rattle.cut.proofs.Reading.{walk-lists}

@@ -8,7 +8,7 @@ use lib.ListN.{take}
 use borrow.Author.Tests.{le-leb, lt-leb}
 use Rattle.laws.specs.Pick.{pick}
 use Rattle.laws.proofs.Tests.{leb-cases}
-use Rattle.wal.specs.Entries.{Entry, endOf}
+use Rattle.wal_reader.specs.Entries.{Entry, endOf}
 use Rattle.cut.specs.Cut.{endingBy, lastEnd}
 use Rattle.cut.proofs.Layouts.{Laid, laid-none, laid-next, end-ahead}
 

@@ -11,10 +11,10 @@ use Rattle.laws.proofs.Tests.{leb-cases}
 use Rattle.laws.proofs.Written.{length-zeros}
 use Rattle.entry.specs.Entry.{entryBytes}
 use Rattle.entry.proofs.EntryBytes.{length-entryBytes}
-use Rattle.wal.specs.Region.{nextRegion}
-use Rattle.wal.specs.Entries.{Entry, endOf}
-use Rattle.wal.specs.Append.{Placed, accepted, refused, startFor}
-use Rattle.wal.proofs.Regions.{lt-next, next-whole, next-starts}
+use Rattle.wal_position.specs.Region.{nextRegion}
+use Rattle.wal_reader.specs.Entries.{Entry, endOf}
+use Rattle.wal_writer.specs.Append.{Placed, accepted, refused, startFor}
+use Rattle.wal_position.proofs.Regions.{lt-next, next-whole, next-starts}
 use Rattle.cut.specs.PlainLog.{Append, Log, noEntries, plainAnswer, joined, plainNext, plainLog, bytesFrom}
 use Rattle.cut.specs.Cut.{lastEnd, Tags}
 use Rattle.cut.proofs.PlainLogs.{Accepted, plain-accepted}

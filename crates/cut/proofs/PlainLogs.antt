@@ -9,10 +9,10 @@ use lib.Dec.{leb}
 use borrow.Author.Tests.{leb-true, le-leb}
 use Rattle.laws.specs.Pick.{pick}
 use Rattle.laws.proofs.Tests.{leb-cases}
-use Rattle.wal.specs.Region.{regionStart, nextRegion}
-use Rattle.wal.specs.Checks.{logCheck, unless}
-use Rattle.wal.specs.Append.{Placed, accepted, refused, startFor, within, place}
-use Rattle.wal.proofs.Regions.{lt-next}
+use Rattle.wal_position.specs.Region.{regionStart, nextRegion}
+use Rattle.wal_position.specs.Checks.{logCheck, unless}
+use Rattle.wal_writer.specs.Append.{Placed, accepted, refused, startFor, within, place}
+use Rattle.wal_position.proofs.Regions.{lt-next}
 use Rattle.wal.proofs.Walks.{pick-first}
 use Rattle.cut.specs.PlainLog.{multipleAbove, plainStart, plainAnswer}
 

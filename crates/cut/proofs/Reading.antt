@@ -13,16 +13,16 @@ use Rattle.laws.proofs.Tests.{leb-cases}
 use Rattle.laws.proofs.Written.{length-zeros}
 use Rattle.checksum.specs.Crc32.{crc32}
 use Rattle.entry.specs.Entry.{entryBytes, checksumAt, lengthAt, tagAt, payloadAt}
-use Rattle.wal.specs.Region.{regionStart, nextRegion}
-use Rattle.wal.specs.Checks.{logCheck, unless}
-use Rattle.wal.specs.Look.{whole, lookAt}
-use Rattle.wal.specs.Entries.{Entry, endOf}
+use Rattle.wal_position.specs.Region.{regionStart, nextRegion}
+use Rattle.wal_position.specs.Checks.{logCheck, unless}
+use Rattle.wal_reader.specs.Look.{whole, lookAt}
+use Rattle.wal_reader.specs.Entries.{Entry, endOf}
 use Rattle.wal.specs.Walk.{Stop, Walk, END, ZEROS, TORN, stop, go, list, move, moveAt, walkAt, listing, stopped, walk}
 use Rattle.wal.specs.Answers.{walkedOf}
-use Rattle.wal.proofs.Checks.{passed-sound}
-use Rattle.wal.proofs.Regions.{size-most}
+use Rattle.wal_position.proofs.Checks.{passed-sound}
+use Rattle.wal_position.proofs.Regions.{size-most}
 use Rattle.wal.proofs.Steps.{walk-by-steps}
-use Rattle.wal.proofs.Looks.{look-past, look-region-full, look-no-header, look-blank, look-cut, look-whole}
+use Rattle.wal_reader.proofs.Looks.{look-past, look-region-full, look-no-header, look-blank, look-cut, look-whole}
 use Rattle.wal.proofs.Walks.{walk-stop, walk-go, walk-list}
 use Rattle.cut.specs.PlainLog.{Log, bytesFrom, logBytes}
 use Rattle.cut.specs.Cut.{endingBy, lastEnd, Holds, kept, resumeAt, AllStand, ReadsBack}

@@ -4,13 +4,14 @@ use mathlib.Core.List.{List, []}
 use Prim.Native.Nat.{ℕ, _^_, _≤_}
 use native.Mathlib.Omega.{arith}
 use lib.ListN.{length}
-use Rattle.wal.specs.Checks.{logCheck, unless}
+use Rattle.wal_position.specs.Checks.{logCheck, unless}
 use Rattle.wal.specs.Walk as walks
 use Rattle.wal.specs.Walk.{Walk, walk, walkAt}
-use Rattle.wal.proofs.Checks.{Sound, sound-passes, unless-passed}
-use Rattle.replay.specs.Recovery.{Lent, Recovery, refused, committeeCheck, replayed, recover}
+use Rattle.wal_position.proofs.Checks.{Sound, sound-passes, unless-passed}
+use Rattle.replay.specs.Recovery.{Lent, Recovery, refused, replayed, recover}
+use Rattle.committee.specs.Committee.{committeeCheck}
 use Rattle.state.specs.Tables.{lentOf}
-use Rattle.recovery.specs.Answers.{Answers}
+use Rattle.replay_log.specs.Answers.{Answers}
 use Rattle.cut.specs.PlainLog.{Log}
 use Rattle.cut.specs.Cut.{Holds, kept, resumeAt, ReadsBack, ruled, Recovers}
 

@@ -5,8 +5,8 @@ use Prim.Native.Nat.{ℕ, _+_, _^_, _≤_, min}
 use native.Mathlib.Omega.{arith}
 use lib.ListN.{length, take, take-append-drop}
 use lib.Seq.{append-snoc, take-take, take-at}
-use Rattle.wal.specs.Entries.{Entry, endOf}
-use Rattle.wal.specs.Append.{accepted}
+use Rattle.wal_reader.specs.Entries.{Entry, endOf}
+use Rattle.wal_writer.specs.Append.{accepted}
 use Rattle.cut.specs.PlainLog.{Log, plainAnswer, joined, plainNext, plainLog, bytesFrom, logBytes}
 use Rattle.cut.specs.Cut.{Store, Compared, after, plainSeen, endingBy, lastEnd, again, Holds, kept, lost, resumeAt, Restores}
 use Rattle.cut.proofs.PlainLogs.{plain-accepts}

@@ -5,15 +5,15 @@ use Prim.Native.Nat.{ℕ, zero, suc, _+_, _≤_, _<_}
 use native.Mathlib.Omega.{arith}
 use lib.ListN.{length}
 use Rattle.checksum.specs.Crc32.{crc32}
-use Rattle.wal.specs.Checks.{unless}
-use Rattle.wal.specs.Entries.{Entry, endOf}
-use Rattle.wal.specs.Look.{whole, lookAt}
-use Rattle.wal.specs.Read.{readOf, readAt}
-use Rattle.wal.specs.Answers.{foundOf}
+use Rattle.wal_position.specs.Checks.{unless}
+use Rattle.wal_reader.specs.Entries.{Entry, endOf}
+use Rattle.wal_reader.specs.Look.{whole, lookAt}
+use Rattle.wal_reader.specs.Read.{readOf, readAt}
+use Rattle.wal_reader.specs.Answers.{foundOf}
 use Rattle.wal.specs.Walk as walk
 use Rattle.wal.specs.Walk.{Walk, listing, listed, walkAt, stepFrom}
-use Rattle.wal.proofs.Checks.{Sound, sound-passes}
-use Rattle.wal.proofs.Looks.{look-whole}
+use Rattle.wal_position.proofs.Checks.{Sound, sound-passes}
+use Rattle.wal_reader.proofs.Looks.{look-whole}
 use Rattle.wal.proofs.Steps.{Ahead, step-ahead, step-listed, step-named}
 use Rattle.wal.proofs.Walks.{Listed, afterStep, walk-step}
 use Rattle.cut.specs.Cut.{Stands, AllStand}

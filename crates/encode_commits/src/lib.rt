@@ -4,7 +4,7 @@
 use bincode::End;
 use encode::Encoded;
 use types::BlockReference;
-use wal::WalPosition;
+use wal_position::WalPosition;
 ghost use mathlib.Core.Path.{_≡_};
 ghost use Rattle.laws.specs.Parse.{many};
 ghost use Rattle.types.specs.Records.{reference, block};

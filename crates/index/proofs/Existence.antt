@@ -16,11 +16,11 @@ use Rattle.laws.proofs.Written.{getD-bytesAt}
 use Rattle.rows.specs.declared.Order.the-variants.{Below, Above}
 use Rattle.rows.specs.declared.Place.the-variants.{At, Gap}
 use Rattle.rows.specs.Rows.{rowsOf, rowAt, key, choose, compared, Leads, Ascending, below, present, placeOf}
-use Rattle.rows.specs.Tables.{Eights}
+use Rattle.tables.specs.Tables.{Eights}
 use Rattle.rows.proofs.Lexicographic.{order-cases, not-equal, not-above, above-not-equal, first-above, first-same, compared-self, compared-equal, below-of, below-trans, irreflexive}
 use Rattle.rows.proofs.Ascending.{leads-trans, leads-none}
 use Rattle.rows.proofs.Places.{below-within, at-place, gap-place}
-use Rattle.rows.proofs.Tables.{eights-rowsOf}
+use Rattle.tables.proofs.Tables.{eights-rowsOf}
 use Rattle.rows.proofs.Rows.{length-rowsOf, first-rowAt, rowsFrom, rowsFrom-cons, rowsFrom-none, drop-rowsOf}
 use Rattle.index.specs.Keys.{existsAt}
 use Rattle.index.proofs.Prefixes.{compared-append}

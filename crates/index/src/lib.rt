@@ -15,7 +15,7 @@ use rows::Place;
 use types::AuthorityIndex;
 use types::BlockReference;
 use types::RoundNumber;
-use wal::WalPosition;
+use wal_position::WalPosition;
 
 // A reference that may be missing; zero where it is.
 pub struct FoundReference {

@@ -11,29 +11,31 @@ use Rattle.laws.proofs.Written.{length-zeros, length-written}
 use Rattle.entry.specs.Entry.{entryBytes}
 use Rattle.entry.proofs.EntryBytes.{length-entryBytes}
 use Rattle.types.specs.declared.BlockReference.{BlockReference}
-use Rattle.wal.specs.declared.writer.WalWriter.{WalWriter}
-use Rattle.wal.specs.Checks.{logCheck}
-use Rattle.wal.specs.Append.{Placed, accepted, refused, place, imageAfter}
-use Rattle.wal.proofs.Checks.{sound-passes}
-use Rattle.wal.proofs.Places.{Accepted, accepted-says}
-use Rattle.rows.specs.declared.Upserted.{Upserted}
-use Rattle.rows.specs.declared.Upserted.the-variants.{Count, Full}
+use Rattle.wal_writer.specs.declared.WalWriter.{WalWriter}
+use Rattle.wal_position.specs.Checks.{logCheck}
+use Rattle.wal_writer.specs.Append.{Placed, accepted, refused, place, imageAfter}
+use Rattle.wal_position.proofs.Checks.{sound-passes}
+use Rattle.wal_writer.proofs.Places.{Accepted, accepted-says}
+use Rattle.tables.specs.declared.Upserted.{Upserted}
+use Rattle.tables.specs.declared.Upserted.the-variants.{Count, Full}
 use Rattle.rows.specs.Rows.{rowsOf}
-use Rattle.rows.specs.Tables.{upserted, upsertCount}
-use Rattle.rows.proofs.Tables.{fits-lent}
+use Rattle.tables.specs.Tables.{upserted, upsertCount}
+use Rattle.tables.proofs.Tables.{fits-lent}
 use Rattle.rows.proofs.Ascending.{ascendingb-decides}
 use Rattle.index.specs.Keys.{keyWords, indexRow}
-use Rattle.replay.specs.Recovery.{committeeCheck}
+use Rattle.committee.specs.Committee.{committeeCheck}
 use Rattle.state.specs.Holding.{blockNumber}
 use Rattle.state.proofs.BlockEntries.{number-below}
 use Rattle.state.proofs.Rows.{length-indexRow}
 use Rattle.store.specs.declared.BlockStore.{BlockStore}
 use Rattle.store.specs.Store.{storeCheck, callCheck}
 use Rattle.store.proofs.Checked.{call-checked, call-log, committee-refused, store-passed, log-passed}
-use Rattle.insert.specs.declared.Inserted.{Inserted}
-use Rattle.insert.specs.Insert.{Insertion, refuse, insert, Decoded, bad, good, blockOf, loadedRow, insertion, storeWith, insertedOf, imageWith, indexWith, Inserts}
-use Rattle.insert.proofs.IndexRows.{InOrder, upserted-in-order}
-use Rattle.insert.proofs.Inserting.{block-refused, index-full, index-counted, call-refused, place-refused, undecoded, decoded}
+use Rattle.indexing.specs.declared.Inserted.{Inserted}
+use Rattle.indexing.specs.Indexing.{Insertion, refuse, insert, loadedRow, storeWith, insertedOf, imageWith, indexWith}
+use Rattle.insert.specs.Insert.{Decoded, bad, good, blockOf, insertion, Inserts}
+use Rattle.indexing.proofs.IndexRows.{InOrder, upserted-in-order}
+use Rattle.indexing.proofs.Indexing.{block-refused, index-full, index-counted}
+use Rattle.insert.proofs.Inserting.{call-refused, place-refused, undecoded, decoded}
 
 -- ---- What an insert that was accepted has passed
 

@@ -1,4 +1,3 @@
-pub mod IndexRows
 pub mod Inserting
 pub mod Kept
 pub mod Numbers

@@ -13,19 +13,21 @@ use Rattle.laws.specs.Parse.{Res, bad, got, answer}
 use Rattle.types.specs.declared.BlockReference.{BlockReference}
 use Rattle.types.specs.Records.{BlockValue, block}
 use Rattle.commits.specs.Records.{OwnBlockValue, ownBlock}
-use Rattle.wal.specs.declared.writer.WalWriter.{WalWriter}
-use Rattle.wal.specs.Checks.{logCheck, unless}
-use Rattle.wal.specs.Append.{Placed, accepted, refused, startFor, within, place}
-use Rattle.rows.specs.declared.Upserted.{Upserted}
-use Rattle.rows.specs.declared.Upserted.the-variants.{Count, Full}
-use Rattle.rows.specs.Tables.{upsertCount}
+use Rattle.wal_writer.specs.declared.WalWriter.{WalWriter}
+use Rattle.wal_position.specs.Checks.{logCheck, unless}
+use Rattle.wal_writer.specs.Append.{Placed, accepted, refused, startFor, within, place}
+use Rattle.tables.specs.declared.Upserted.{Upserted}
+use Rattle.tables.specs.declared.Upserted.the-variants.{Count, Full}
+use Rattle.tables.specs.Tables.{upsertCount}
 use Rattle.state.specs.Holding.{blockNumber}
 use Rattle.store.specs.declared.BlockStore.{BlockStore}
 use Rattle.rows.specs.Rows.{rowsOf}
 use Rattle.store.specs.Store.{callCheck}
-use Rattle.insert.specs.Insert.{Insertion, refuse, insert, Decoded, good, blockOf, loadedRow, indexing, insertion, insertedOf}
+use Rattle.indexing.specs.Indexing.{Insertion, refuse, insert, loadedRow, indexing, insertedOf}
+use Rattle.insert.specs.Insert.{Decoded, good, blockOf, insertion}
 use Rattle.insert.specs.Insert as definitions
-use Rattle.insert.proofs.Inserting.{block-refused, index-full, index-counted, call-refused, place-refused, undecoded, decoded}
+use Rattle.indexing.proofs.Indexing.{block-refused, index-full, index-counted}
+use Rattle.insert.proofs.Inserting.{call-refused, place-refused, undecoded, decoded}
 
 unless-numbered : {A : Type 0} (P : A → Type 0) (f : ℕ → A) (n : ℕ) (x : A) → ((m : ℕ) → 0 < m → P (f m)) → P x → P (unless n f x)
 unfolding unless

@@ -4,3 +4,4 @@ pub mod AllBytes
 pub mod LittleEndian
 pub mod Copying
 pub mod Parses
+pub mod Parts

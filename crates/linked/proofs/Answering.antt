@@ -8,7 +8,7 @@ use lib.ListN.{length}
 use borrow.Author.Tests.{le-leb, lt-leb}
 use Rattle.laws.specs.Pick.{pick}
 use Rattle.laws.specs.Parse.{Res, got, answer}
-use Rattle.wal.proofs.Checks.{unless-passed, unless-refused}
+use Rattle.wal_position.proofs.Checks.{unless-passed, unless-refused}
 use Rattle.rows.specs.Rows.{rowsOf}
 use Rattle.types.specs.declared.BlockReference.{BlockReference}
 use Rattle.types.specs.Records.{BlockValue, block}
@@ -17,12 +17,15 @@ use Rattle.blocks.specs.Answers.{blockAnswer}
 use Rattle.blocks.proofs.Found.{block-bad, block-some}
 use Rattle.store.specs.declared.BlockStore.{BlockStore}
 use Rattle.store.specs.Store.{indexed, callCheck}
-use Rattle.lookup.specs.Lookups.{counted}
+use Rattle.query.specs.Query.{counted}
 use Rattle.linked.specs.declared.LinkedAnswer.{LinkedAnswer}
-use Rattle.linked.specs.declared.Searched.{Searched}
-use Rattle.linked.specs.Chains.{Indexed, same, reaches, isAncestor}
-use Rattle.linked.specs.Linked.{downTo, includesOf, readBlocks, refusedOf, linkedOf, lookedUp, linkedAnswer}
-use Rattle.linked.specs.Searching.{Parses, searchedOf}
+use Rattle.reach.specs.declared.Searched.{Searched}
+use Rattle.reach.specs.Blocks.{Indexed, readBlocks}
+use Rattle.includes.specs.References.{same}
+use Rattle.linked.specs.Chains.{reaches, isAncestor}
+use Rattle.linked.specs.Linked.{downTo, refusedOf, linkedOf, lookedUp, linkedAnswer}
+use Rattle.includes.specs.Includes.{includesOf, Parses}
+use Rattle.reach.specs.Reaching.{searchedOf}
 use Rattle.linked.proofs.Searching.{Answered, reads-numbered, told-failed, told-all}
 
 module _ (k : ℕ) (s : List ℕ) (used : ℕ) (store : BlockStore) (index bytes : List ℕ) (earlier : BlockReference) (lent : ℕ) {n : ℕ}

@@ -8,9 +8,11 @@ use lib.Dec.{eqb}
 use borrow.Author.Tests.{eqb-true, eq-eqb}
 use Rattle.types.specs.declared.BlockReference.{BlockReference}
 use Rattle.types.specs.Records.{BlockValue}
-use Rattle.linked.specs.Chains.{Indexed, In, first, behind, Chain, ends, goes, Ancestor, same, among, any, isEarlier, reaches, isAncestor}
-use Rattle.linked.proofs.Tests.{both, both-hold, either, first-holds, second-holds}
-use Rattle.linked.proofs.Comparing.{same-equal, same-self}
+use Rattle.reach.specs.Blocks.{Indexed}
+use Rattle.linked.specs.Chains.{In, first, behind, Chain, ends, goes, Ancestor, isEarlier, reaches, isAncestor}
+use Rattle.includes.specs.References.{same, among, any}
+use Rattle.includes.proofs.Tests.{both, both-hold, either, first-holds, second-holds}
+use Rattle.includes.proofs.Comparing.{same-equal, same-self}
 
 -- ---- Members of a list
 

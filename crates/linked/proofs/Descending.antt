@@ -10,14 +10,14 @@ use borrow.Author.Tests.{le-leb, lt-leb}
 use Rattle.laws.specs.Pick.{pick}
 use Rattle.laws.proofs.Tests.{leb-cases}
 use Rattle.rows.specs.Rows.{rowsOf, Ascending, below}
-use Rattle.rows.specs.Tables.{Eights}
+use Rattle.tables.specs.Tables.{Eights}
 use Rattle.rows.proofs.Rows.{length-rowsOf, getD-rowsOf, first-rowAt}
 use Rattle.rows.proofs.Places.{below-within}
-use Rattle.rows.proofs.Tables.{eights-rowsOf}
-use Rattle.lookup.specs.Lookups.{roundOf, byRound}
-use Rattle.lookup.specs.Collecting.{between}
-use Rattle.lookup.proofs.Keeping.{between-part}
-use Rattle.lookup.proofs.Segments.{AtLeast, Rising, ascending-rising, roundKey, lower-next, lower-none, upTo-below, round-segment}
+use Rattle.tables.proofs.Tables.{eights-rowsOf}
+use Rattle.filters.specs.Filters.{roundOf, byRound}
+use Rattle.filters.specs.Segments.{between}
+use Rattle.filters.proofs.Keeping.{between-part}
+use Rattle.filters.proofs.Segments.{AtLeast, Rising, ascending-rising, roundKey, lower-next, lower-none, upTo-below, round-segment}
 use Rattle.linked.specs.Linked.{downTo}
 
 -- ---- Rows before the first of a round are of earlier rounds, and those from it on are not

@@ -14,17 +14,18 @@ use Rattle.rows.specs.Rows.{rowsOf, Ascending, below}
 use Rattle.rows.proofs.Rows.{length-rowsOf, rowsFrom-none}
 use Rattle.rows.proofs.Places.{below-within}
 use Rattle.types.specs.declared.BlockReference.{BlockReference}
-use Rattle.lookup.specs.Lookups.{byRound, unloaded}
-use Rattle.lookup.specs.Collecting.{between}
-use Rattle.lookup.proofs.Keeping.{between-rows, length-between}
-use Rattle.lookup.proofs.Segments.{roundKey}
-use Rattle.linked.specs.declared.Searched.{Searched}
-use Rattle.linked.specs.declared.Parents.{Parents}
-use Rattle.linked.specs.Chains.{Indexed}
-use Rattle.linked.specs.Linked.{all, includesOf, readBlocks}
-use Rattle.linked.specs.Searching.{Parses, AllPlaced, Ready, reachedIn, parentsOf, nextParents, meets, Marked, searchedOf}
-use Rattle.linked.proofs.Asking.{parents-later, parents-rows}
-use Rattle.linked.proofs.Appending.{unloaded-most}
+use Rattle.filters.specs.Filters.{byRound}
+use Rattle.query.specs.Query.{unloaded}
+use Rattle.filters.specs.Segments.{between}
+use Rattle.filters.proofs.Keeping.{between-rows, length-between}
+use Rattle.filters.proofs.Segments.{roundKey}
+use Rattle.reach.specs.declared.Searched.{Searched}
+use Rattle.reach.specs.declared.Parents.{Parents}
+use Rattle.reach.specs.Blocks.{Indexed, all, readBlocks}
+use Rattle.includes.specs.Includes.{includesOf, Parses}
+use Rattle.reach.specs.Reaching.{AllPlaced, Ready, reachedIn, parentsOf, nextParents, meets, Marked, searchedOf}
+use Rattle.reach.proofs.Asking.{parents-later, parents-rows}
+use Rattle.reach.proofs.Appending.{unloaded-most}
 use Rattle.linked.proofs.Descending.{to-within, down-ends, round-below, round-from, down-round, from-below, between-round}
 use Rattle.linked.proofs.Searching.{Searching, nearest, Answered, reads-numbered, told-failed, told-all, searching-start, searching-same, searched-all, searched-failed, searching-next}
 

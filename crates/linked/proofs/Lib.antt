@@ -1,11 +1,4 @@
-pub mod Tests
-pub mod Any
-pub mod Comparing
 pub mod Chains
-pub mod Including
-pub mod Asking
-pub mod Appending
-pub mod Reaching
 pub mod Descending
 pub mod Rounds
 pub mod Searching

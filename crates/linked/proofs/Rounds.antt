@@ -9,10 +9,12 @@ use lib.Dec.{eqb}
 use borrow.Author.Tests.{eq-eqb, ne-eqb}
 use Rattle.laws.specs.Pick.{pick}
 use Rattle.types.specs.declared.BlockReference.{BlockReference}
-use Rattle.linked.specs.Chains.{Indexed, same, among, any, isEarlier, reaches}
-use Rattle.linked.specs.Searching.{isReached, nextParents, meets}
-use Rattle.linked.proofs.Any.{Each, each-weaker, any-append, any-each, any-same, any-never, any-or, any-and}
-use Rattle.linked.proofs.Tests.{or-false}
+use Rattle.reach.specs.Blocks.{Indexed}
+use Rattle.includes.specs.References.{same, among, any}
+use Rattle.linked.specs.Chains.{isEarlier, reaches}
+use Rattle.reach.specs.Reaching.{isReached, nextParents, meets}
+use Rattle.reach.proofs.Any.{Each, each-weaker, any-append, any-each, any-same, any-never, any-or, any-and}
+use Rattle.includes.proofs.Tests.{or-false}
 
 -- blocks of rounds before n, and of round n
 abbrev pub Before : ℕ → Indexed → Type 0

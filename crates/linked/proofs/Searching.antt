@@ -11,18 +11,22 @@ use borrow.Author.Tests.{ne-eqb}
 use Rattle.laws.specs.Pick.{pick}
 use Rattle.laws.proofs.Tests.{eqb-cases}
 use Rattle.types.specs.declared.BlockReference.{BlockReference}
-use Rattle.lookup.specs.Lookups as lookups
-use Rattle.lookup.specs.Lookups.{BlockRead, blockAt, keep, roundOf, byRound, unloaded}
-use Rattle.lookup.proofs.Reading.{NumberedBlock, is-refused, is-got, blockAt-numbered}
-use Rattle.lookup.proofs.Keeping.{keep-yes, keep-no}
-use Rattle.linked.specs.declared.Searched.{Searched}
-use Rattle.linked.specs.Chains.{Indexed, any, reaches}
-use Rattle.linked.specs.Linked.{downTo, Reads, failed, all, also, next, readBlocks}
-use Rattle.linked.specs.Searching.{nextParents, meets, searchedOf}
-use Rattle.linked.proofs.Any.{Each, each-weaker, each-append, any-same, any-never}
-use Rattle.linked.proofs.Appending.{joined, joined-nothing, joined-joined, reads-append, unloaded-append}
+use Rattle.block_reader.specs.Reading as reading
+use Rattle.block_reader.specs.Reading.{BlockRead, blockAt}
+use Rattle.filters.specs.Filters.{keep, roundOf, byRound}
+use Rattle.query.specs.Query.{unloaded}
+use Rattle.block_reader.proofs.Reading.{NumberedBlock, is-refused, is-got, blockAt-numbered}
+use Rattle.filters.proofs.Keeping.{keep-yes, keep-no}
+use Rattle.reach.specs.declared.Searched.{Searched}
+use Rattle.reach.specs.Blocks.{Indexed, Reads, failed, all, also, next, readBlocks}
+use Rattle.includes.specs.References.{any}
+use Rattle.linked.specs.Chains.{reaches}
+use Rattle.linked.specs.Linked.{downTo}
+use Rattle.reach.specs.Reaching.{nextParents, meets, searchedOf}
+use Rattle.reach.proofs.Any.{Each, each-weaker, each-append, any-same, any-never}
+use Rattle.reach.proofs.Appending.{joined, joined-nothing, joined-joined, reads-append, unloaded-append}
 use Rattle.linked.proofs.Rounds.{Before, OfRound, reaches-gap, reaches-none, reaches-round}
-use Rattle.linked.proofs.Tests.{or-false, and-false}
+use Rattle.includes.proofs.Tests.{or-false, and-false}
 
 -- ---- What was read of a round
 
@@ -34,9 +38,9 @@ EachRead P (all blocks) = Each P blocks
 each-next : (n : ℕ) (s : List ℕ) (round : ℕ) → round ≡ n → (x : BlockRead) (r : Reads) → EachRead (OfRound n) r
     → EachRead (OfRound n) (next s round x r)
 unfolding next also
-each-next n s round e (lookups.BlockRead.refused m) r h = tt
-each-next n s round e (lookups.BlockRead.got b at m) (failed f) h = tt
-each-next n s round e (lookups.BlockRead.got b at m) (all blocks) h = (e, h)
+each-next n s round e (reading.BlockRead.refused m) r h = tt
+each-next n s round e (reading.BlockRead.got b at m) (failed f) h = tt
+each-next n s round e (reading.BlockRead.got b at m) (all blocks) h = (e, h)
 
 of-round : (k : ℕ) (s : List ℕ) (used n : ℕ) (rows : List (List ℕ)) → EachRead (OfRound n) (readBlocks k s used (byRound n rows))
 unfolding readBlocks byRound keep

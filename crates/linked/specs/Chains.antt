@@ -4,18 +4,14 @@
 use mathlib.Core.Path.{_≡_}
 use mathlib.Core.Logic.{_⊎_}
 use mathlib.Core.Bool.{Bool, true, false}
-use mathlib.Core.List.{List, [], _∷_}
+use mathlib.Core.List.{List, _∷_}
 use Prim.Native.Nat.{ℕ, zero, suc}
 use lib.Dec.{eqb}
 use Rattle.laws.specs.Pick.{pick}
 use Rattle.types.specs.declared.BlockReference.{BlockReference}
 use Rattle.types.specs.Records.{BlockValue}
-
--- an indexed block: the round of its row, and the reference and the includes in the block read
-pub record Indexed : Type 0 where
-  pub round : ℕ
-  pub reference : BlockReference
-  pub includes : List BlockReference
+use Rattle.includes.specs.References.{same, among, any}
+use Rattle.reach.specs.Blocks.{Indexed}
 
 -- ---- The relation
 
@@ -35,26 +31,6 @@ abbrev pub Ancestor : List Indexed → BlockValue → BlockReference → Type 0
 Ancestor blocks later earlier = (later .reference ≡ earlier) ⊎ Chain blocks earlier (later .reference .round) (later .includes)
 
 -- ---- The relation as a test (proofs/Chains.antt, `ancestor-chain` and `chain-ancestor`)
-
-unfoldable pub sameBytes : List ℕ → List ℕ → Bool
-sameBytes [] [] = true
-sameBytes [] (y ∷ b) = false
-sameBytes (x ∷ a) [] = false
-sameBytes (x ∷ a) (y ∷ b) = pick (eqb x y) (sameBytes a b) false
-
-unfoldable pub same : BlockReference → BlockReference → Bool
-same a b =
-    pick (eqb (a .round) (b .round))
-    (pick (eqb (a .authority) (b .authority)) (sameBytes (a .digest .0) (b .digest .0)) false) false
-
-unfoldable pub among : BlockReference → List BlockReference → Bool
-among x [] = false
-among x (y ∷ ys) = pick (same x y) true (among x ys)
-
--- whether a test holds of one of the blocks
-unfoldable pub any : {A : Type 0} → (A → Bool) → List A → Bool
-any f [] = false
-any f (b ∷ blocks) = pick (f b) true (any f blocks)
 
 unfoldable pub isEarlier : BlockReference → ℕ → Indexed → Bool
 isEarlier earlier n b = pick (eqb n (earlier .round)) (same (b .reference) earlier) false

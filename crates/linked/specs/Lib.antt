@@ -1,3 +1,2 @@
 pub mod Chains
 pub mod Linked
-pub mod Searching

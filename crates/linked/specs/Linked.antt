@@ -2,49 +2,27 @@
 -- Before any read it checks 9 for the later block, then 15 for its working rows, as many as the index has; these end zero." The order of
 -- checks before that is a query's: 1, 2, 18. That the working rows end zero stands in the contract itself.
 use mathlib.Core.Bool.{false}
-use mathlib.Core.List.{List, [], _∷_, _++_}
+use mathlib.Core.List.{List, [], _++_}
 use Prim.Native.Nat.{ℕ, zero, suc}
 use lib.Dec.{leb}
-use lib.ListN.{length, getD}
+use lib.ListN.{length}
 use Rattle.laws.specs.Pick.{pick}
-use Rattle.laws.specs.Bytes.{bytesAt}
 use Rattle.laws.specs.Parse.{answer}
 use Rattle.types.specs.declared.BlockReference.{BlockReference}
 use Rattle.types.specs.Records.{BlockValue, block}
-use Rattle.wal.specs.Checks.{unless}
+use Rattle.wal_position.specs.Checks.{unless}
 use Rattle.store.specs.declared.BlockStore.{BlockStore}
 use Rattle.store.specs.Store.{indexed, callCheck}
-use Rattle.lookup.specs.Lookups as lookups
-use Rattle.lookup.specs.Lookups.{BlockRead, blockAt, roundOf, byRound, unloaded, counted}
+use Rattle.filters.specs.Filters.{byRound}
+use Rattle.query.specs.Query.{unloaded, counted}
 use Rattle.linked.specs.declared.LinkedAnswer.{LinkedAnswer}
-use Rattle.linked.specs.Chains.{Indexed, isAncestor}
+use Rattle.reach.specs.Blocks.{Reads, failed, all, readBlocks}
+use Rattle.linked.specs.Chains.{isAncestor}
 
 -- the rows of the rounds from just under `high` down to `low`, the highest round first
 unfoldable pub downTo : ℕ → ℕ → List (List ℕ) → List (List ℕ)
 downTo low zero rows = []
 downTo low (suc n) rows = pick (leb low n) (byRound n rows ++ downTo low n rows) []
-
--- the includes of a block, of its bytes. A block that was read decodes (the crate lookup, proofs/Decoding.antt, `read-decodes`)
-unfoldable pub includesOf : List ℕ → List BlockReference
-includesOf bytes = answer [] (λ (b : BlockValue) e. b .includes) (block bytes 0)
-
--- the blocks of some rows, in order, or the number of the first that cannot be read
-pub data Reads : Type 0 where
-  failed : ℕ → Reads
-  all : List Indexed → Reads
-
-unfoldable pub also : Indexed → Reads → Reads
-also b (failed n) = failed n
-also b (all blocks) = all (b ∷ blocks)
-
--- a block of a row of this round, and those behind it
-unfoldable pub next : List ℕ → ℕ → BlockRead → Reads → Reads
-next s round (lookups.BlockRead.refused n) rest = failed n
-next s round (lookups.BlockRead.got r at n) rest = also (record { round = round; reference = r; includes = includesOf (bytesAt s at n) }) rest
-
-unfoldable pub readBlocks : ℕ → List ℕ → ℕ → List (List ℕ) → Reads
-readBlocks k s used [] = all []
-readBlocks k s used (r ∷ rows) = next s (roundOf r) (blockAt k s used (getD r 6 0)) (readBlocks k s used rows)
 
 -- ---- The answer
 

@@ -1,6 +1,5 @@
-// Whether one block is an ancestor of another (block_store.rs, linked). A working row belongs to each
-// index row: whether its block is reached from the later one, and where the block's bytes stand in the
-// image.
+// Whether one block is an ancestor of another (block_store.rs, linked): the rounds are searched from the later
+// block's down.
 ghost use mathlib.Core.Path.{_≡_};
 ghost use mathlib.Core.Bool.{true, false};
 ghost use Prim.Native.Nat.{suc, _+_, _*_, _/_, _≤_, _<_};
@@ -9,191 +8,24 @@ ghost use lib.ListN.{length};
 ghost use Rattle.laws.specs.Pick.{pick};
 ghost use Rattle.laws.specs.Bytes.{zeros};
 ghost use Rattle.rows.specs.Rows.{rowsOf, Ascending};
-ghost use Rattle.lookup.specs.Collecting.{between};
-ghost use Rattle.linked.specs.Chains.{sameBytes, same, among, reaches};
-ghost use Rattle.linked.specs.Linked.{downTo, includesOf, readBlocks, refusedOf, linkedAnswer};
-ghost use Rattle.linked.specs.Searching.{Parses, AllPlaced, Ready, reachedIn, parentsOf, isReached, meets, Marked, searchedOf};
-use bincode::Number;
+ghost use Rattle.includes.specs.References.{same};
+ghost use Rattle.linked.specs.Chains.{reaches};
+ghost use Rattle.linked.specs.Linked.{downTo, refusedOf, linkedAnswer};
+ghost use Rattle.includes.specs.Includes.{includesOf, Parses};
+ghost use Rattle.reach.specs.Blocks.{readBlocks};
+ghost use Rattle.reach.specs.Reaching.{searchedOf};
+use includes::same_reference;
+use reach::Parents;
+use reach::Searched;
 use store::BlockStore;
 use types::BlockReference;
 use types::RoundNumber;
-use wal::WalPosition;
 
 // The number of a refusal, or 0, the answer, and the store with the loads counted.
 pub struct LinkedAnswer {
     pub number: u8,
     pub linked: bool,
     pub store: BlockStore,
-}
-
-// The number of a refusal, or 0, how many of the blocks read were not loaded, and whether the earlier
-// block is among those that were reached.
-struct Searched {
-    number: u8,
-    unloaded: u64,
-    found: bool,
-}
-
-// Where the blocks of the round above are that were reached: the later block itself, or the working
-// rows up to `end`.
-struct Parents {
-    later: bool,
-    end: usize,
-}
-
-fn same_digest(a: [u8; 32], b: [u8; 32]) -> bool
-    ensures { λ r. ⌜ r ≡ sameBytes a b ⌝ }
-{
-    let mut i = 0;
-    while i < 32 {
-        if a[i] != b[i] {
-            return false;
-        }
-        i += 1;
-    }
-    true
-}
-
-pub fn same_reference(a: BlockReference, b: BlockReference) -> bool
-    ensures { λ r. ⌜ r ≡ same a b ⌝ }
-{
-    if a.round != b.round {
-        return false;
-    }
-    if a.authority != b.authority {
-        return false;
-    }
-    let d = a.digest.0;
-    let e = b.digest.0;
-    same_digest(d, e)
-}
-
-// Whether the block that these bytes begin with includes the reference.
-fn includes(block: &[u8], reference: BlockReference) -> bool
-    requires { ⌜ Parses (now block) ⌝ }
-    ensures { λ r. ⌜ r ≡ among reference (includesOf (now (block .entry))) ⌝ }
-{
-    let Number::Got(n, at) = bincode::decode_u64(block, 56) else {
-        return false;
-    };
-    let mut i = 0;
-    while i < n {
-        let d = types::include_at(block, at, i as usize);
-        if !d.ok {
-            return false;
-        }
-        if same_reference(reference, d.reference) {
-            return true;
-        }
-        i += 1;
-    }
-    false
-}
-
-// Whether one of the blocks reached, of the working rows from `from` up to `to`, includes the reference.
-fn any_includes(
-    image: &[u8],
-    work: &[u64],
-    from: usize,
-    to: usize,
-    reference: BlockReference,
-) -> bool
-    requires { ⌜ (8 * to ≤ length (now work)) × AllPlaced (now image) (between from to (now work)) ⌝ }
-    ensures { λ r. ⌜ r ≡ isReached (reachedIn (now (image .entry)) (between from to (now (work .entry)))) reference ⌝ }
-{
-    let mut i = from;
-    while i < to {
-        if work[8 * i] != 0 {
-            let at = work[8 * i + 1] as usize;
-            let end = at + work[8 * i + 2] as usize;
-            if includes(&image[at..end], reference) {
-                return true;
-            }
-            i += 1;
-        } else {
-            i += 1;
-        }
-    }
-    false
-}
-
-// Whether a parent includes the reference.
-fn is_reached(
-    image: &[u8],
-    work: &[u64],
-    from: usize,
-    parents: Parents,
-    later: &[u8],
-    reference: BlockReference,
-) -> bool
-    requires { ⌜ Ready (now image) (now later) parents from (now work) ⌝ }
-    ensures { λ r. ⌜ r ≡ isReached (parentsOf (now (image .entry)) (now (later .entry)) parents (between from (parents .end) (now (work .entry)))) reference ⌝ }
-{
-    if parents.later {
-        return includes(later, reference);
-    }
-    any_includes(image, work, from, parents.end, reference)
-}
-
-// Reads the blocks of the index rows from `from` up to `to`, which are those of a round, and stores in
-// their working rows which of them a parent includes. The parents' rows begin at `to`.
-fn reach_round(
-    k: u64,
-    image: &[u8],
-    used: u64,
-    index: &[u64],
-    from: usize,
-    to: usize,
-    parents: Parents,
-    later: &[u8],
-    earlier: BlockReference,
-    work: &mut [u64],
-) -> Searched
-    requires { ⌜ (from ≤ to) × (8 * to ≤ length (now index)) × (8 * to ≤ length (now work)) × Ready (now image) (now later) parents to (now work) ⌝ }
-    ensures { λ r. ⌜ r ≡ searchedOf (meets earlier (parentsOf (now (image .entry)) (now (later .entry)) parents (between to (parents .end) (now (work .entry))))) (between from to (now (index .entry))) (readBlocks k (now (image .entry)) used (between from to (now (index .entry)))) ⌝ }
-    ensures { λ _. ⌜ Marked (now (image .entry)) (parentsOf (now (image .entry)) (now (later .entry)) parents (between to (parents .end) (now (work .entry)))) (between from to (now (work .exit))) (readBlocks k (now (image .entry)) used (between from to (now (index .entry)))) ⌝ }
-    ensures { λ _. ⌜ length (now (work .exit)) ≡ length (now (work .entry)) ⌝ }
-{
-    let mut i = from;
-    let mut unloaded = 0;
-    let mut found = false;
-    while i < to {
-        let b = lookup::read_block(k, image, used, WalPosition(index[8 * i + 6]));
-        if b.number != 0 {
-            return Searched {
-                number: b.number,
-                unloaded: 0,
-                found: false,
-            };
-        }
-        let reached = is_reached(image, work, to, parents, later, b.reference);
-        rows::put_row(
-            work,
-            i,
-            [reached as u64, b.at as u64, b.len as u64, 0, 0, 0, 0, 0],
-        );
-        found = met(found, reached, b.reference, earlier);
-        unloaded = unloaded + lookup::not_loaded(index, i);
-        i += 1;
-    }
-    Searched {
-        number: 0,
-        unloaded,
-        found,
-    }
-}
-
-// Whether the earlier block was met before, or is this one.
-fn met(found: bool, reached: bool, reference: BlockReference, earlier: BlockReference) -> bool
-    ensures { λ r. ⌜ r ≡ pick found true (pick reached (same reference earlier) false) ⌝ }
-{
-    if found {
-        return true;
-    }
-    if !reached {
-        return false;
-    }
-    same_reference(reference, earlier)
 }
 
 // The parents of a round under `above`: the later block, or the working rows up to `end`, and none
@@ -236,17 +68,17 @@ fn search(
     ensures { λ r. ⌜ r ≡ searchedOf (λ blocks. reaches blocks earlier high (includesOf (now (later .entry)))) (downTo (earlier .round) high (rowsOf count (now (index .entry)))) (readBlocks k (now (image .entry)) used (downTo (earlier .round) high (rowsOf count (now (index .entry))))) ⌝ }
     ensures { λ _. ⌜ length (now (work .exit)) ≡ length (now (work .entry)) ⌝ }
 {
-    let low = lookup::lower_bound(index, count, [earlier.round, 0, 0, 0, 0, 0]);
-    let mut to = lookup::lower_bound(index, count, [high, 0, 0, 0, 0, 0]);
+    let low = filters::lower_bound(index, count, [earlier.round, 0, 0, 0, 0, 0]);
+    let mut to = filters::lower_bound(index, count, [high, 0, 0, 0, 0, 0]);
     let mut end = to;
     let mut above = high;
     let mut unloaded = 0;
     let mut found = false;
     while low < to {
         let round = index[8 * (to - 1)];
-        let from = lookup::lower_bound(index, count, [round, 0, 0, 0, 0, 0]);
+        let from = filters::lower_bound(index, count, [round, 0, 0, 0, 0, 0]);
         let parents = parents_of(high, above, round, to, end);
-        let s = reach_round(
+        let s = reach::reach_round(
             k,
             image,
             used,
@@ -287,7 +119,7 @@ fn found_in(found: bool, above: RoundNumber, round: RoundNumber) -> bool
 fn refuse(store: BlockStore, number: u8, work: &mut [u64]) -> LinkedAnswer
     ensures { λ r. ⌜ (r ≡ refusedOf store number) × (now (work .exit) ≡ zeros (length (now (work .entry)))) ⌝ }
 {
-    rows::clear(work);
+    tables::clear(work);
     LinkedAnswer {
         number,
         linked: false,
@@ -336,11 +168,11 @@ pub fn linked(
     if s.number != 0 {
         return refuse(store, s.number, work);
     }
-    rows::clear(work);
+    tables::clear(work);
     LinkedAnswer {
         number: 0,
         linked: is_linked(reference, earlier, s.found),
-        store: lookup::count_loads(store, s.unloaded),
+        store: query::count_loads(store, s.unloaded),
     }
 }
 

@@ -7,11 +7,11 @@ use Rattle.laws.specs.Ascii.{ascii}
 use Rattle.checksum.specs.Crc32.{digits, number, plus, times, power, generator, reduce, remainder, messageBits, complement, crc32}
 use Rattle.text.specs.Digits as text
 use Rattle.entry.specs.Entry.{entryBytes, checksumAt, lengthAt, tagAt, payloadAt}
-use Rattle.wal.specs.Region.{regionStart, nextRegion}
-use Rattle.wal.specs.Checks.{logCheck, unless}
-use Rattle.wal.specs.Entries.{endOf}
-use Rattle.wal.specs.Append.{startFor, within, place, imageAfter}
-use Rattle.wal.specs.Look.{judged, lookAt}
+use Rattle.wal_position.specs.Region.{regionStart, nextRegion}
+use Rattle.wal_position.specs.Checks.{logCheck, unless}
+use Rattle.wal_reader.specs.Entries.{endOf}
+use Rattle.wal_writer.specs.Append.{startFor, within, place, imageAfter}
+use Rattle.wal_reader.specs.Look.{judged, lookAt}
 use Rattle.wal.specs.Walk.{move, listing as listed, moveAt, follow, walkAt, walk}
 use Rattle.cut.specs.Cut.{usedAfter, answerOf, next, after, storeSeen}
 use Rattle.listing.specs.Listing.{line, entryLine, lines, word, stopLine, refusedLine, endLine, walkText, inputText, listing}

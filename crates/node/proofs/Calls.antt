@@ -4,8 +4,8 @@ use mathlib.Core.List.{List}
 use Prim.Native.Nat.{ℕ}
 use Rattle.text.specs.Clipped.{clipped}
 use Rattle.replay.specs.Recovery.{Recovery}
-use Rattle.recovery.specs.declared.Recovered.{Recovered}
-use Rattle.recovery.specs.Answers.{Answers}
+use Rattle.recovered.specs.declared.Recovered.{Recovered}
+use Rattle.replay_log.specs.Answers.{Answers}
 use Rattle.node_words.specs.Words.{recoveredWords}
 use Rattle.node.specs.Calls.{Recovers}
 

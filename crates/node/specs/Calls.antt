@@ -4,14 +4,16 @@ use mathlib.Core.List.{List}
 use Prim.Native.Nat.{ℕ}
 use lib.ListN.{length}
 use Rattle.text.specs.Clipped.{clipped}
-use Rattle.wal.specs.Answers.{appendAnswer, appendImage, walkAnswer}
-use Rattle.wal.specs.declared.writer.WalWriter.{WalWriter}
+use Rattle.wal_writer.specs.Answers.{appendAnswer, appendImage}
+use Rattle.wal.specs.Answers.{walkAnswer}
+use Rattle.wal_writer.specs.declared.WalWriter.{WalWriter}
 use Rattle.replay.specs.Recovery.{Recovery}
-use Rattle.insert.specs.declared.Inserted.{Inserted}
-use Rattle.lookup.specs.declared.Looked.{Looked}
-use Rattle.recovery.specs.Answers.{recoveredOf, answerTable, pendingRows, unprocessedRows, committedRows, indexRows}
+use Rattle.indexing.specs.declared.Inserted.{Inserted}
+use Rattle.query.specs.declared.Looked.{Looked}
+use Rattle.replay_log.specs.Answers.{recoveredOf, answerTable, pendingRows, unprocessedRows, committedRows, indexRows}
 use Rattle.node_words.specs.Words.{recoveredWords}
-use Rattle.node_answers.specs.Answers.{appendNumber, appendWords, walkNumber, walkWords, Logs, Looks}
+use Rattle.node_log.specs.Answers.{appendNumber, appendWords, walkNumber, walkWords}
+use Rattle.node_answers.specs.Answers.{Logs, Looks}
 
 -- The number, as many of the answer's words as fit into a, and each word of the tables: p, u, c, i and a are those lent, p′, u′, c′,
 -- i′ and a′ those given back.

@@ -8,18 +8,22 @@ ghost use Rattle.text.specs.Clipped.{clipped};
 ghost use Rattle.types.specs.Records.{block, reference as parsed};
 ghost use Rattle.types.specs.Answers.{referenceAnswer};
 ghost use Rattle.blocks.specs.Answers.{blockAnswer};
-ghost use Rattle.wal.specs.Answers.{readAnswer, walkStepAnswer};
+ghost use Rattle.wal_reader.specs.Answers.{readAnswer};
+ghost use Rattle.wal.specs.Answers.{walkStepAnswer};
 ghost use Rattle.replay.specs.Recovery as replay;
 ghost use Rattle.state.specs.Tables.{lentOf};
 ghost use Prim.Native.Nat.{_+_, _*_, _/_};
-ghost use Rattle.store.specs.Store.{blockExists, blockExistsAt, allBlocksExistAt, cleanupAnswer, cleanupIndex};
+ghost use Rattle.exists.specs.Exists.{blockExists, blockExistsAt, allBlocksExistAt};
+ghost use Rattle.cleanup.specs.Cleanup.{cleanupAnswer, cleanupIndex};
 ghost use Rattle.insert.specs.Insert.{Inserts};
-ghost use Rattle.lookup.specs.Lookups.{GetBlock, GetBlocksByRound, GetBlocksAtAuthorityRound, GetOwnBlocks, GetOthersBlocks};
+ghost use Rattle.lookup.specs.Lookups.{GetBlock, GetBlocksByRound, GetBlocksAtAuthorityRound};
+ghost use Rattle.lookup_after.specs.After.{GetOwnBlocks, GetOthersBlocks};
 ghost use Rattle.transaction.specs.Transaction.{getTransaction};
 ghost use Rattle.linked.specs.Linked.{linkedAnswer};
 ghost use Rattle.laws.specs.Bytes.{zeros};
-ghost use Rattle.node_words.specs.Stores.{referenceOf, storeOf, openedWords};
-ghost use Rattle.node_answers.specs.Answers.{Reads, Steps, Tells, Cleans, Shows, Links, DecodesBlock, DecodesReference};
+ghost use Rattle.node_store.specs.Stores.{referenceOf, storeOf, openedWords};
+ghost use Rattle.node_log.specs.Answers.{Reads, Steps, DecodesBlock, DecodesReference};
+ghost use Rattle.node_answers.specs.Answers.{Tells, Cleans, Shows, Links};
 ghost use Rattle.node.specs.Calls.{Recovers, Appends, Walks, Inserting, Looking};
 use types::TransactionLocator;
 use wal::WalPosition;
@@ -39,9 +43,9 @@ pub extern "C" fn kadzhomir_append(
 {
     let writer = WalWriter { exponent: k, used };
     let found = wal::append(writer, image, tag, payload);
-    let words = node_answers::append_words(used, found);
+    let words = node_log::append_words(used, found);
     node_words::put_words(answer, 0, &words);
-    node_answers::append_number(found)
+    node_log::append_number(found)
 }
 
 // Reads the entry at a position.
@@ -56,7 +60,7 @@ pub extern "C" fn kadzhomir_read(
     ensures { λ r. ⌜ Reads (readAnswer k (now (image .entry)) used position) r (now (answer .entry)) (now (answer .exit)) ⌝ }
 {
     let found = wal::read(k, image, used, WalPosition(position));
-    node_answers::put_found(answer, found)
+    node_log::put_found(answer, found)
 }
 
 // One step of a walk that has listed the entries up to e.
@@ -71,7 +75,7 @@ pub extern "C" fn kadzhomir_walk_step(
     ensures { λ r. ⌜ Steps (walkStepAnswer k (now (image .entry)) used e) r (now (answer .entry)) (now (answer .exit)) ⌝ }
 {
     let step = wal::walk_step(k, image, used, WalPosition(e));
-    node_answers::put_step(answer, step)
+    node_log::put_step(answer, step)
 }
 
 // Walks a log of `used` bytes, and answers the refusal's number, 0 where there is none.
@@ -80,9 +84,9 @@ pub extern "C" fn kadzhomir_walk(k: u64, image: &[u8], used: u64, answer: &mut [
     ensures { λ r. ⌜ Walks k (now (image .entry)) used r (now (answer .entry)) (now (answer .exit)) ⌝ }
 {
     let found = wal::walk(k, image, used);
-    let words = node_answers::walk_words(found);
+    let words = node_log::walk_words(found);
     node_words::put_words(answer, 0, &words);
-    node_answers::walk_number(found)
+    node_log::walk_number(found)
 }
 
 // Recovers what a log holds into the tables, and answers the refusal's number, 0 where there is none.
@@ -122,7 +126,7 @@ pub extern "C" fn kadzhomir_open(size: u64, own: u64, recovered: &[u64], store: 
     ensures { λ r. ⌜ r ≡ 0 ⌝ }
     ensures { λ _. ⌜ now (store .exit) ≡ clipped (now (store .entry)) 0 (openedWords size own (now (recovered .entry))) ⌝ }
 {
-    node_words::put_opened(store, size, own, recovered);
+    node_store::put_opened(store, size, own, recovered);
     0
 }
 
@@ -139,7 +143,7 @@ pub extern "C" fn kadzhomir_insert_block(
 ) -> u8
     ensures { λ r. ⌜ Inserting (λ x. Inserts (record { exponent = k; used = used }) (storeOf (now (store .entry))) 1 (now (block .entry)) (now (image .entry)) (now (index .entry)) x (now (image .exit)) (now (index .exit))) r (now (store .entry)) (now (answer .entry)) (now (store .exit)) (now (answer .exit)) ⌝ }
 {
-    let s = node_words::store_of(store);
+    let s = node_store::store_of(store);
     let writer = WalWriter { exponent: k, used };
     let r = insert::insert_block(writer, image, s, index, block);
     node_answers::put_inserted(store, answer, r)
@@ -158,7 +162,7 @@ pub extern "C" fn kadzhomir_insert_own_block(
 ) -> u8
     ensures { λ r. ⌜ Inserting (λ x. Inserts (record { exponent = k; used = used }) (storeOf (now (store .entry))) 3 (now («own_block» .entry)) (now (image .entry)) (now (index .entry)) x (now (image .exit)) (now (index .exit))) r (now (store .entry)) (now (answer .entry)) (now (store .exit)) (now (answer .exit)) ⌝ }
 {
-    let s = node_words::store_of(store);
+    let s = node_store::store_of(store);
     let writer = WalWriter { exponent: k, used };
     let r = insert::insert_own_block(writer, image, s, index, own_block);
     node_answers::put_inserted(store, answer, r)
@@ -178,8 +182,8 @@ pub extern "C" fn kadzhomir_cleanup(
     ensures { λ r. ⌜ Cleans (cleanupAnswer k (now (image .entry)) used (storeOf (now (store .entry))) (now (index .entry)) t) r (now (answer .entry)) (now (answer .exit)) ⌝ }
     ensures { λ _. ⌜ now (index .exit) ≡ cleanupIndex k (now (image .entry)) used (storeOf (now (store .entry))) (now (index .entry)) t ⌝ }
 {
-    let s = node_words::store_of(store);
-    let cleaned = store::cleanup(k, image, used, s, index, t);
+    let s = node_store::store_of(store);
+    let cleaned = cleanup::cleanup(k, image, used, s, index, t);
     node_answers::put_cleaned(answer, cleaned)
 }
 
@@ -196,9 +200,9 @@ pub extern "C" fn kadzhomir_block_exists(
 ) -> u8
     ensures { λ r. ⌜ Tells (blockExists k (now (image .entry)) used (storeOf (now (store .entry))) (now (index .entry)) (referenceOf (now (reference .entry)))) r (now (answer .entry)) (now (answer .exit)) ⌝ }
 {
-    let s = node_words::store_of(store);
-    let x = node_words::reference_at(reference, 0);
-    let told = store::block_exists(k, image, used, s, index, x);
+    let s = node_store::store_of(store);
+    let x = node_store::reference_at(reference, 0);
+    let told = exists::block_exists(k, image, used, s, index, x);
     node_answers::put_told(answer, told)
 }
 
@@ -216,8 +220,8 @@ pub extern "C" fn kadzhomir_block_exists_at_authority_round(
 ) -> u8
     ensures { λ r. ⌜ Tells (blockExistsAt k (now (image .entry)) used (storeOf (now (store .entry))) (now (index .entry)) authority round) r (now (answer .entry)) (now (answer .exit)) ⌝ }
 {
-    let s = node_words::store_of(store);
-    let told = store::block_exists_at_authority_round(k, image, used, s, index, authority, round);
+    let s = node_store::store_of(store);
+    let told = exists::block_exists_at_authority_round(k, image, used, s, index, authority, round);
     node_answers::put_told(answer, told)
 }
 
@@ -235,8 +239,8 @@ pub extern "C" fn kadzhomir_all_blocks_exists_at_authority_round(
 ) -> u8
     ensures { λ r. ⌜ Tells (allBlocksExistAt k (now (image .entry)) used (storeOf (now (store .entry))) (now (index .entry)) (now (authorities .entry)) round) r (now (answer .entry)) (now (answer .exit)) ⌝ }
 {
-    let s = node_words::store_of(store);
-    let told = store::all_blocks_exists_at_authority_round(
+    let s = node_store::store_of(store);
+    let told = exists::all_blocks_exists_at_authority_round(
         k,
         image,
         used,
@@ -262,8 +266,8 @@ pub extern "C" fn kadzhomir_get_block(
 ) -> u8
     ensures { λ r. ⌜ Looking (λ x. GetBlock k (now (image .entry)) used (storeOf (now (store .entry))) (now (index .entry)) (referenceOf (now (reference .entry))) x (now (out .entry)) (now (out .exit))) r (now (store .entry)) (now (answer .entry)) (now (store .exit)) (now (answer .exit)) ⌝ }
 {
-    let s = node_words::store_of(store);
-    let x = node_words::reference_at(reference, 0);
+    let s = node_store::store_of(store);
+    let x = node_store::reference_at(reference, 0);
     let r = lookup::get_block(k, image, used, s, index, x, out);
     node_answers::put_looked(store, answer, r)
 }
@@ -282,7 +286,7 @@ pub extern "C" fn kadzhomir_get_blocks_by_round(
 ) -> u8
     ensures { λ r. ⌜ Looking (λ x. GetBlocksByRound k (now (image .entry)) used (storeOf (now (store .entry))) (now (index .entry)) round x (now (out .entry)) (now (out .exit))) r (now (store .entry)) (now (answer .entry)) (now (store .exit)) (now (answer .exit)) ⌝ }
 {
-    let s = node_words::store_of(store);
+    let s = node_store::store_of(store);
     let r = lookup::get_blocks_by_round(k, image, used, s, index, round, out);
     node_answers::put_looked(store, answer, r)
 }
@@ -302,7 +306,7 @@ pub extern "C" fn kadzhomir_get_blocks_at_authority_round(
 ) -> u8
     ensures { λ r. ⌜ Looking (λ x. GetBlocksAtAuthorityRound k (now (image .entry)) used (storeOf (now (store .entry))) (now (index .entry)) authority round x (now (out .entry)) (now (out .exit))) r (now (store .entry)) (now (answer .entry)) (now (store .exit)) (now (answer .exit)) ⌝ }
 {
-    let s = node_words::store_of(store);
+    let s = node_store::store_of(store);
     let r = lookup::get_blocks_at_authority_round(k, image, used, s, index, authority, round, out);
     node_answers::put_looked(store, answer, r)
 }
@@ -322,8 +326,8 @@ pub extern "C" fn kadzhomir_get_own_blocks(
 ) -> u8
     ensures { λ r. ⌜ Looking (λ x. GetOwnBlocks k (now (image .entry)) used (storeOf (now (store .entry))) (now (index .entry)) «from_excluded» limit x (now (out .entry)) (now (out .exit))) r (now (store .entry)) (now (answer .entry)) (now (store .exit)) (now (answer .exit)) ⌝ }
 {
-    let s = node_words::store_of(store);
-    let r = lookup::get_own_blocks(k, image, used, s, index, from_excluded, limit, out);
+    let s = node_store::store_of(store);
+    let r = lookup_after::get_own_blocks(k, image, used, s, index, from_excluded, limit, out);
     node_answers::put_looked(store, answer, r)
 }
 
@@ -343,8 +347,8 @@ pub extern "C" fn kadzhomir_get_others_blocks(
 ) -> u8
     ensures { λ r. ⌜ Looking (λ x. GetOthersBlocks k (now (image .entry)) used (storeOf (now (store .entry))) (now (index .entry)) «from_excluded» authority limit x (now (out .entry)) (now (out .exit))) r (now (store .entry)) (now (answer .entry)) (now (store .exit)) (now (answer .exit)) ⌝ }
 {
-    let s = node_words::store_of(store);
-    let r = lookup::get_others_blocks(
+    let s = node_store::store_of(store);
+    let r = lookup_after::get_others_blocks(
         k,
         image,
         used,
@@ -372,8 +376,8 @@ pub extern "C" fn kadzhomir_get_transaction(
 ) -> u8
     ensures { λ r. ⌜ Shows (getTransaction k (now (image .entry)) used (storeOf (now (store .entry))) (now (index .entry)) (record { block = referenceOf (now (reference .entry)); offset = offset })) r (now (store .entry)) (now (answer .entry)) (now (store .exit)) (now (answer .exit)) ⌝ }
 {
-    let s = node_words::store_of(store);
-    let block = node_words::reference_at(reference, 0);
+    let s = node_store::store_of(store);
+    let block = node_store::reference_at(reference, 0);
     let locator = TransactionLocator { block, offset };
     let r = transaction::get_transaction(k, image, used, s, index, locator);
     node_answers::put_transaction(store, answer, r)
@@ -395,8 +399,8 @@ pub extern "C" fn kadzhomir_linked(
     ensures { λ r. ⌜ Links (linkedAnswer k (now (image .entry)) used (storeOf (now (store .entry))) (now (index .entry)) (now (later .entry)) (referenceOf (now (earlier .entry))) (length (now (work .entry)) / 8)) r (now (store .entry)) (now (answer .entry)) (now (store .exit)) (now (answer .exit)) ⌝ }
     ensures { λ _. ⌜ now (work .exit) ≡ zeros (length (now (work .entry))) ⌝ }
 {
-    let s = node_words::store_of(store);
-    let x = node_words::reference_at(earlier, 0);
+    let s = node_store::store_of(store);
+    let x = node_store::reference_at(earlier, 0);
     let r = linked::linked(k, image, used, s, index, later, x, work);
     node_answers::put_linked(store, answer, r)
 }
@@ -407,7 +411,7 @@ pub extern "C" fn kadzhomir_decode_block(bytes: &[u8], at: usize, answer: &mut [
     ensures { λ r. ⌜ DecodesBlock (blockAnswer at (block (now (bytes .entry)) at)) r (now (answer .entry)) (now (answer .exit)) ⌝ }
 {
     let d = blocks::decode_block(bytes, at);
-    node_answers::put_block(answer, d)
+    node_log::put_block(answer, d)
 }
 
 // The i-th of the references that stand at a place.
@@ -421,5 +425,5 @@ pub extern "C" fn kadzhomir_include_at(
     ensures { λ r. ⌜ DecodesReference (referenceAnswer (parsed (now (bytes .entry)) (place + 56 * i))) r (now (answer .entry)) (now (answer .exit)) ⌝ }
 {
     let d = types::include_at(bytes, place, i);
-    node_answers::put_decoded(answer, d)
+    node_log::put_decoded(answer, d)
 }

@@ -1,101 +1,27 @@
--- The words of each call's answer, in the order in which they are put, and its number. What is missing is zeros.
+-- The words of the answer of each call on a block store, in the order in which they are put, and its number. What is missing is zeros.
 use mathlib.Core.Path.{_≡_}
-use mathlib.Core.List.{List, [], _∷_, _++_}
-use Prim.Native.Nat.{ℕ, suc}
+use mathlib.Core.List.{List, [], _∷_}
+use Prim.Native.Nat.{ℕ}
 use Rattle.text.specs.Clipped.{clipped}
-use Rattle.wal.specs.declared.reader.WalEntry.{WalEntry}
-use Rattle.wal.specs.declared.reader.Found.{Found}
-use Rattle.wal.specs.declared.reader.Found.the-variants.{Entry as Found·Entry, Refused as Found·Refused}
-use Rattle.wal.specs.declared.iterator.WalkStep.{WalkStep}
-use Rattle.wal.specs.declared.iterator.WalkStep.the-variants.{Entry as Step·Entry, Stopped as Step·Stopped, Refused as Step·Refused}
-use Rattle.wal.specs.declared.iterator.Walked.{Walked}
-use Rattle.wal.specs.declared.iterator.Walked.the-variants.{Stopped, Refused as Walked·Refused}
-use Rattle.wal.specs.declared.writer.Appended.{Appended}
-use Rattle.wal.specs.declared.writer.Appended.the-variants.{At, Refused as Appended·Refused}
-use Rattle.types.specs.declared.DecodedReference.{DecodedReference}
-use Rattle.blocks.specs.declared.DecodedBlock.{DecodedBlock}
-use Rattle.index.specs.Keys.{keyWords}
 use Rattle.store.specs.declared.BlockStore.{BlockStore}
-use Rattle.store.specs.declared.Answer.{Answer}
-use Rattle.store.specs.declared.Answer.the-variants.{Yes, No, Refused as Answer·Refused}
-use Rattle.store.specs.declared.Cleaned.{Cleaned}
-use Rattle.store.specs.declared.Cleaned.the-variants.{Unloaded, Refused as Cleaned·Refused}
-use Rattle.insert.specs.declared.Inserted.{Inserted}
-use Rattle.lookup.specs.declared.Looked.{Looked}
+use Rattle.exists.specs.declared.Answer.{Answer}
+use Rattle.exists.specs.declared.Answer.the-variants.{Yes, No, Refused as Answer·Refused}
+use Rattle.cleanup.specs.declared.Cleaned.{Cleaned}
+use Rattle.cleanup.specs.declared.Cleaned.the-variants.{Unloaded, Refused as Cleaned·Refused}
+use Rattle.indexing.specs.declared.Inserted.{Inserted}
+use Rattle.query.specs.declared.Looked.{Looked}
 use Rattle.transaction.specs.declared.Transaction.{Transaction}
 use Rattle.linked.specs.declared.LinkedAnswer.{LinkedAnswer}
-use Rattle.node_words.specs.Words.{flag, stopWord}
-use Rattle.node_words.specs.Stores.{storeAfter}
+use Rattle.node_store.specs.Stores.{storeAfter}
+use Rattle.node_words.specs.Words.{flag}
+use Rattle.node_log.specs.Answers.{Gives}
 
--- ---- What is put
-
--- A call answers the number n, which is x, and puts as many of the words v as fit into a, which is a′ then.
-pub record Gives (x : ℕ) (v : List ℕ) (n : ℕ) (a a′ : List ℕ) : Type 0 where
-  pub number : n ≡ x
-  pub words : a′ ≡ clipped a 0 v
-
--- The same of a call that leaves the store s: its words are w, and w′ then, which a refusal does not change.
+-- A call answers the number n, which is x, puts as many of the words v as fit into a, which is a′ then, and leaves the store s: its words are w,
+-- and w′ then, which a refusal does not change.
 pub record GivesStore (x : ℕ) (s : BlockStore) (v : List ℕ) (n : ℕ) (w a w′ a′ : List ℕ) : Type 0 where
   pub number : n ≡ x
   pub store : w′ ≡ storeAfter x w s
   pub words : a′ ≡ clipped a 0 v
-
--- ---- The log
-
--- of an append: the refusal's number
-unfoldable pub appendNumber : Appended → ℕ
-appendNumber (At p w) = 0
-appendNumber (Appended·Refused n) = n
-
--- the number, the entry's position, and used after the call: a refusal keeps it
-unfoldable pub appendWords : ℕ → Appended → List ℕ
-appendWords used (At p w) = 0 ∷ p .0 ∷ w .used ∷ []
-appendWords used (Appended·Refused n) = n ∷ 0 ∷ used ∷ []
-
--- of a walk: the refusal's number
-unfoldable pub walkNumber : Walked → ℕ
-walkNumber (Stopped w e unread) = 0
-walkNumber (Walked·Refused n p) = n
-
--- the number, the start of the entry concerned, the stop, E and the unread count, as `headWords` has them
-unfoldable pub walkWords : Walked → List ℕ
-walkWords (Stopped w e unread) = 0 ∷ 0 ∷ stopWord w ∷ e .0 ∷ unread ∷ []
-walkWords (Walked·Refused n p) = n ∷ p .0 ∷ 0 ∷ 0 ∷ 0 ∷ []
-
--- position, tag, the payload's length, and the checksum
-unfoldable pub entryWords : WalEntry → List ℕ
-entryWords e = e .position .0 ∷ e .tag ∷ e .len ∷ e .checksum ∷ []
-
--- of a read
-unfoldable pub readNumber : Found → ℕ
-readNumber (Found·Entry e) = 0
-readNumber (Found·Refused n) = n
-
--- the number, and the entry
-unfoldable pub readWords : Found → List ℕ
-readWords (Found·Entry e) = 0 ∷ entryWords e
-readWords (Found·Refused n) = n ∷ 0 ∷ 0 ∷ 0 ∷ 0 ∷ []
-
-abbrev pub Reads : Found → ℕ → List ℕ → List ℕ → Type 0
-Reads x n a a′ = Gives (readNumber x) (readWords x) n a a′
-
--- of a walk's step
-unfoldable pub stepNumber : WalkStep → ℕ
-stepNumber (Step·Entry e) = 0
-stepNumber (Step·Stopped w) = 0
-stepNumber (Step·Refused n p) = n
-
--- the number, the kind, and the entry. The kind of an entry is 0, that of a stop one more than its word. A refusal has the start of
--- the entry concerned.
-unfoldable pub stepWords : WalkStep → List ℕ
-stepWords (Step·Entry e) = 0 ∷ 0 ∷ entryWords e
-stepWords (Step·Stopped w) = 0 ∷ suc (stopWord w) ∷ 0 ∷ 0 ∷ 0 ∷ 0 ∷ []
-stepWords (Step·Refused n p) = n ∷ 0 ∷ p .0 ∷ 0 ∷ 0 ∷ 0 ∷ []
-
-abbrev pub Steps : WalkStep → ℕ → List ℕ → List ℕ → Type 0
-Steps x n a a′ = Gives (stepNumber x) (stepWords x) n a a′
-
--- ---- The block store
 
 -- of a question
 unfoldable pub toldNumber : Answer → ℕ
@@ -152,23 +78,3 @@ linkedWords r = r .number ∷ flag (r .linked) ∷ []
 
 abbrev pub Links : LinkedAnswer → ℕ → List ℕ → List ℕ → List ℕ → List ℕ → Type 0
 Links r n w a w′ a′ = GivesStore (r .number) (r .store) (linkedWords r) n w a w′ a′
-
--- ---- Records
-
--- of a block: whether it decodes, its reference, its includes and its statements, each by place and number, the creation time's low and
--- high half, the epoch marker, and the end. 15 words, all zero where it does not decode (proofs/Records.antt, `no-block-words`).
-unfoldable pub blockWords : DecodedBlock → List ℕ
-blockWords d =
-    (flag (d .ok) ∷ keyWords (d .block .reference))
-    ++ (d .block .includes .at ∷ d .block .includes .left ∷ d .block .statements .at ∷ d .block .statements .left
-    ∷ d .block .«meta_creation_time_ns» .low ∷ d .block .«meta_creation_time_ns» .high ∷ flag (d .block .«epoch_marker») ∷ d .end ∷ [])
-
-abbrev pub DecodesBlock : DecodedBlock → ℕ → List ℕ → List ℕ → Type 0
-DecodesBlock d n a a′ = Gives 0 (blockWords d) n a a′
-
--- of a reference: whether it decodes, the reference, and the end. 8 words, all zero where it does not decode (`no-reference-words`).
-unfoldable pub referenceWords : DecodedReference → List ℕ
-referenceWords d = (flag (d .ok) ∷ keyWords (d .reference)) ++ (d .end ∷ [])
-
-abbrev pub DecodesReference : DecodedReference → ℕ → List ℕ → List ℕ → Type 0
-DecodesReference d n a a′ = Gives 0 (referenceWords d) n a a′

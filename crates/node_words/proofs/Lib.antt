@@ -1,4 +1,2 @@
 pub mod Words
 pub mod Long
-pub mod Stores
-pub mod RoundTrip

@@ -9,8 +9,9 @@ use Rattle.replay.specs.Recovery.{Recovery, refused, recovered}
 use Rattle.index.specs.Keys.{keyWords, digestWords}
 use Rattle.index.specs.Summary.{emptySummary}
 use Rattle.state.specs.Tables.{lastSeenFrom, summaryOf, blocksOf, replayOf, emptyReplay}
-use Rattle.recovery.specs.declared.Recovered.{Recovered}
-use Rattle.recovery.specs.Answers.{refusedAnswer, recoveredOf}
+use Rattle.recovered.specs.declared.Recovered.{Recovered}
+use Rattle.recovered.specs.Finishing.{refusedAnswer}
+use Rattle.replay_log.specs.Answers.{recoveredOf}
 use Rattle.node_words.specs.Words.{spanWords, foundWords, headWords, summaryWords, recoveredWords}
 
 -- 33 words stand before the last seen rounds

@@ -9,13 +9,13 @@ use lib.Dec.{lit≤}
 use lib.ListN.{length}
 use Rattle.text.specs.Clipped.{clipped}
 use Rattle.text.proofs.Clipped.{then-clipped}
-use Rattle.wal.specs.declared.iterator.Stop.{Stop}
-use Rattle.wal.specs.declared.iterator.Stop.the-variants.{End, Zeros, Torn}
+use Rattle.wal.specs.declared.Stop.{Stop}
+use Rattle.wal.specs.declared.Stop.the-variants.{End, Zeros, Torn}
 use Rattle.index.specs.Keys.{keyWords, digestWords}
 use Rattle.index.specs.declared.FoundReference.{FoundReference}
 use Rattle.index.specs.declared.StoreSummary.{StoreSummary}
 use Rattle.state.specs.declared.Span.{Span}
-use Rattle.recovery.specs.declared.Recovered.{Recovered}
+use Rattle.recovered.specs.declared.Recovered.{Recovered}
 use Rattle.node_words.specs.Words.{flag, stopWord, spanWords, foundWords, headWords, summaryWords, recoveredWords}
 
 -- a cast makes 1 of true and 0 of false

@@ -2,13 +2,13 @@
 use mathlib.Core.Bool.{Bool, true, false}
 use mathlib.Core.List.{List, [], _∷_, _++_}
 use Prim.Native.Nat.{ℕ}
-use Rattle.wal.specs.declared.iterator.Stop.{Stop}
-use Rattle.wal.specs.declared.iterator.Stop.the-variants.{End, Zeros, Torn}
+use Rattle.wal.specs.declared.Stop.{Stop}
+use Rattle.wal.specs.declared.Stop.the-variants.{End, Zeros, Torn}
 use Rattle.index.specs.Keys.{keyWords}
 use Rattle.index.specs.declared.FoundReference.{FoundReference}
 use Rattle.index.specs.declared.StoreSummary.{StoreSummary}
 use Rattle.state.specs.declared.Span.{Span}
-use Rattle.recovery.specs.declared.Recovered.{Recovered}
+use Rattle.recovered.specs.declared.Recovered.{Recovered}
 
 unfoldable pub flag : Bool → ℕ
 flag false = 0

@@ -1,5 +1,1 @@
-pub mod Parts
-pub mod Pending
-pub mod Scanning
-pub mod Replaying
 pub mod Answering

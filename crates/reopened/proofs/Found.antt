@@ -9,19 +9,19 @@ use borrow.Author.Tests.{eq-eqb, ne-eqb}
 use Rattle.laws.specs.Pick.{pick}
 use Rattle.laws.specs.Parse.{answer}
 use Rattle.types.specs.declared.BlockReference.{BlockReference}
-use Rattle.wal.specs.Entries.{Entry}
+use Rattle.wal_reader.specs.Entries.{Entry}
 use Rattle.wal.specs.Walk.{Walk}
-use Rattle.wal.specs.Answers.{entryOf, payloadOf}
+use Rattle.wal_reader.specs.Answers.{entryOf, payloadOf}
 use Rattle.rows.specs.Rows.{key}
 use Rattle.index.specs.Keys.{keyWords, digestWords, indexRow}
 use Rattle.replay.specs.Rules.{Block, index}
 use Rattle.state.specs.Tables.{blockRow}
 use Rattle.state.proofs.Rows.{key-blockRow}
-use Rattle.recovery.specs.Answers.{indexRows}
+use Rattle.replay_log.specs.Answers.{indexRows}
 use Rattle.store.specs.Store.{indexed}
-use Rattle.lookup.specs.Lookups as lookups
-use Rattle.lookup.specs.Lookups.{BlockRead, got, plainBlock, ownBlockAt, blockAt}
-use Rattle.lookup.proofs.Reading.{read-found}
+use Rattle.block_reader.specs.Reading as reading
+use Rattle.block_reader.specs.Reading.{BlockRead, got, plainBlock, ownBlockAt, blockAt}
+use Rattle.block_reader.proofs.Reading.{read-found}
 use Rattle.cut.specs.Cut.{Store, Stands, AllStand}
 use Rattle.reopened.specs.Reopened.{unloadedRow}
 use Rattle.reopened.specs.Passing.{There, AllThere, Found}
@@ -39,8 +39,8 @@ record Holds (x : BlockRead) (r : BlockReference) : Type 0 where
   len : ℕ
   is : x ≡ got r at len
 
-read-holds : (a : Entry) {r : BlockReference} → InEntry a r → Holds (lookups.blockIn a) r
-unfolding lookups.blockIn plainBlock ownBlockAt pick answer
+read-holds : (a : Entry) {r : BlockReference} → InEntry a r → Holds (reading.blockIn a) r
+unfolding reading.blockIn plainBlock ownBlockAt pick answer
 read-holds a {r} (as-block one b e decodes same) =
     record {
       at = a .start + 16;
@@ -66,8 +66,8 @@ module _ (k : ℕ) (log : Store) where
   entry-there : (a : Entry) → Stands k (log .image) (log .used) a → OfBlock IsThere a
   unfolding entryOf payloadOf
   entry-there a stands i r is there =
-      let same : lookups.blockIn a ≡ blockAt k (log .image) (log .used) (a .start) =
-      ap (λ (payload : List ℕ). lookups.blockIn (record { start = a .start; tag = a .tag; payload = payload })) (sym (stands .payload))
+      let same : reading.blockIn a ≡ blockAt k (log .image) (log .used) (a .start) =
+      ap (λ (payload : List ℕ). reading.blockIn (record { start = a .start; tag = a .tag; payload = payload })) (sym (stands .payload))
       ∙ read-found k (log .image) (log .used) (a .start) {e = entryOf a} (sym (stands .reads)) in
       subst (λ (x : BlockRead). Holds x r) same (read-holds a (judged-in a i r is there))
 

@@ -3,7 +3,7 @@ use mathlib.Core.Path.{_≡_}
 use mathlib.Core.List.{List, []}
 use Prim.Native.Nat.{ℕ, _<_}
 use Rattle.replay.specs.Rules.{Block, index}
-use Rattle.replay.specs.Recovery.{committeeCheck}
+use Rattle.committee.specs.Committee.{committeeCheck}
 use Rattle.store.specs.declared.BlockStore.{BlockStore}
 use Rattle.store.specs.Store.{openedOf}
 use Rattle.cut.specs.Cut.{Store}

@@ -14,11 +14,11 @@ use Rattle.laws.proofs.Tests.{eqb-cases}
 use Rattle.types.specs.declared.BlockReference.{BlockReference}
 use Rattle.types.specs.Records.{BlockValue, block}
 use Rattle.commits.specs.Records.{OwnBlockValue, CommitsValue, ownBlock, commit}
-use Rattle.wal.specs.Entries.{Entry}
+use Rattle.wal_reader.specs.Entries.{Entry}
 use Rattle.wal.specs.Walk.{Stop}
-use Rattle.rows.specs.declared.Upserted.the-variants.{Count}
+use Rattle.tables.specs.declared.Upserted.the-variants.{Count}
 use Rattle.rows.specs.Rows.{rowsOf}
-use Rattle.rows.specs.Tables.{upserted, upsertCount, putRow}
+use Rattle.tables.specs.Tables.{upserted, upsertCount, putRow}
 use Rattle.index.specs.Keys.{Digested}
 use Rattle.index.specs.Summary.{summaryWith}
 use Rattle.index.specs.declared.StoreSummary.{StoreSummary}
@@ -33,13 +33,14 @@ use Rattle.state.proofs.Digests.{block-digested, own-digested}
 use Rattle.state.proofs.Kept.{summary-kept}
 use Rattle.state.proofs.Rows.{length-indexRow, put-blockRow}
 use Rattle.state.proofs.Summaries.{summary-joined}
-use Rattle.recovery.specs.declared.Recovered.{Recovered}
-use Rattle.recovery.specs.Answers.{recoveredOf, answerTable, Answers, indexRows}
+use Rattle.recovered.specs.declared.Recovered.{Recovered}
+use Rattle.replay_log.specs.Answers.{recoveredOf, answerTable, Answers, indexRows}
 use Rattle.store.specs.declared.BlockStore.{BlockStore}
 use Rattle.store.specs.Store.{indexed, openedOf}
 use Rattle.store.proofs.Checked.{Checked}
 use Rattle.insert.specs.Insert as insert
-use Rattle.insert.specs.Insert.{Decoded, good, loadedRow, storeWith}
+use Rattle.insert.specs.Insert.{Decoded, good}
+use Rattle.indexing.specs.Indexing.{loadedRow, storeWith}
 use Rattle.reopened.specs.Reopened.{unloadedRow, Mirrors}
 use Rattle.reopened.proofs.Judging.{readOf, read-refused, read-judged}
 use Rattle.reopened.proofs.Rows.{rows-upserted, put-unloaded, loaded-unloaded, blocks-unloaded, table-blocks}

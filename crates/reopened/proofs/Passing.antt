@@ -8,21 +8,21 @@ use lib.ListN.{length, drop, length-take, length-drop, length-set}
 use lib.Seq.{getD-set-other}
 use borrow.Author.Tests.{lt-ltb}
 use Rattle.laws.specs.Pick.{pick}
-use Rattle.wal.proofs.Checks.{Sound, sound-passes}
+use Rattle.wal_position.proofs.Checks.{Sound, sound-passes}
 use Rattle.rows.specs.Rows.{rowsOf, key, compared, Leads, Ascending}
-use Rattle.rows.specs.Tables.{Eights}
+use Rattle.tables.specs.Tables.{Eights}
 use Rattle.rows.proofs.Ascending.{ascendingb-decides}
-use Rattle.rows.proofs.Tables.{fits-lent}
+use Rattle.tables.proofs.Tables.{fits-lent}
 use Rattle.index.specs.Keys.{keyWords, indexRow}
 use Rattle.replay.specs.Items.{Read}
 use Rattle.replay.specs.Rules.{Block, blocks, index}
-use Rattle.replay.specs.Recovery.{committeeCheck}
+use Rattle.committee.specs.Committee.{committeeCheck}
 use Rattle.replay.proofs.Sets.{AscendingRefs, setOf-ascending}
 use Rattle.replay.proofs.Applied.{references, index-references}
 use Rattle.state.specs.Tables.{blockRow}
 use Rattle.state.specs.Holding.{AllDigested}
 use Rattle.state.proofs.Rows.{key-blockRow, rows-ascend}
-use Rattle.recovery.specs.Answers.{indexRows}
+use Rattle.replay_log.specs.Answers.{indexRows}
 use Rattle.store.specs.declared.BlockStore.{BlockStore}
 use Rattle.store.specs.Store.{indexed, authoritiesBelow, storeCheck, callCheck}
 use Rattle.store.proofs.Checked.{store-passed, log-passed}

@@ -14,8 +14,8 @@ use Rattle.laws.proofs.Tests.{leb-cases, eqb-cases}
 use Rattle.types.specs.declared.BlockReference.{BlockReference}
 use Rattle.types.specs.Records.{BlockValue, block}
 use Rattle.commits.specs.Records.{OwnBlockValue, ownBlock}
-use Rattle.wal.specs.Entries.{Entry}
-use Rattle.wal.specs.Answers.{payloadOf}
+use Rattle.wal_reader.specs.Entries.{Entry}
+use Rattle.wal_reader.specs.Answers.{payloadOf}
 use Rattle.rows.proofs.Lexicographic.{order-cases}
 use Rattle.index.specs.Keys.{Digested}
 use Rattle.replay.specs.Items.{Item, isBlock, isOwnBlock, Judged, refuse, item, judge, Read, blockIn}

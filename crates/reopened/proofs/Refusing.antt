@@ -16,19 +16,20 @@ use Rattle.laws.proofs.Tests.{eqb-cases}
 use Rattle.types.specs.declared.BlockReference.{BlockReference}
 use Rattle.types.specs.Records.{StatementValue, payload}
 use Rattle.commits.specs.Records.{CommitsValue, commit}
-use Rattle.wal.specs.Checks.{unless}
-use Rattle.wal.specs.Entries.{Entry}
+use Rattle.wal_position.specs.Checks.{unless}
+use Rattle.wal_reader.specs.Entries.{Entry}
 use Rattle.index.specs.Keys.{existsAt}
 use Rattle.replay.specs.Items.{Item, isBlock, isPayload, isOwnBlock, isState, isCommit, Judged, refuse, item, judge, Read, blockIn}
 use Rattle.replay.specs.Rules.{gather, blocks, pending, unprocessed, committed, index}
-use Rattle.replay.specs.Recovery.{Lent, Scanned, scanned, refusedAt, scan, present, entryCheck, blockCheck, rowsCheck, committeeCheck, badPayload, refused, recovered, decoded, replayed}
+use Rattle.replay.specs.Recovery.{Lent, Scanned, scanned, refusedAt, scan, present, entryCheck, blockCheck, rowsCheck, badPayload, refused, recovered, decoded, replayed}
+use Rattle.committee.specs.Committee.{committeeCheck}
 use Rattle.wal.specs.Walk.{Stop, stopped}
-use Rattle.recovery.proofs.Scanning.{concluded, replayedFrom, replayed-whole}
+use Rattle.replay_log.proofs.Scanning.{concluded, replayedFrom, replayed-whole}
 use Rattle.replay.proofs.Applied.{present-index}
 use Rattle.state.specs.Holding.{blockNumber}
 use Rattle.state.proofs.BlockEntries.{exists-present}
 use Rattle.state.proofs.Checks.{check-judged, check-block, no-block}
-use Rattle.recovery.specs.Answers.{indexRows}
+use Rattle.replay_log.specs.Answers.{indexRows}
 use Rattle.reopened.specs.Reopened.{unloadedRow, AllJudged, entriesIn, Cause, by-committee, by-entry, by-rows, by-payload}
 use Rattle.reopened.proofs.Judging.{readOf, readsOf, read-judged, check-item}
 use Rattle.reopened.proofs.Mirroring.{item-no-block, Holds}

@@ -7,36 +7,39 @@ use Prim.Native.Nat.{ℕ, _^_, _≤_, _<_}
 use native.Mathlib.Omega.{arith}
 use lib.ListN.{length, take}
 use Rattle.laws.specs.Bytes.{AllBytes}
-use Rattle.wal.specs.declared.writer.WalWriter.{WalWriter}
-use Rattle.wal.specs.Checks.{logCheck, unless}
-use Rattle.wal.specs.Entries.{Entry, endOf}
-use Rattle.wal.specs.Append as append
-use Rattle.wal.specs.Append.{Placed, accepted, place, imageAfter}
+use Rattle.wal_writer.specs.declared.WalWriter.{WalWriter}
+use Rattle.wal_position.specs.Checks.{logCheck, unless}
+use Rattle.wal_reader.specs.Entries.{Entry, endOf}
+use Rattle.wal_writer.specs.Append as append
+use Rattle.wal_writer.specs.Append.{Placed, accepted, place, imageAfter}
 use Rattle.wal.specs.Walk.{Stop, END, Ending, Walk, stopped, walkAt, walk}
-use Rattle.wal.proofs.Checks.{Sound, sound-passes, passed-sound, unless-passed}
-use Rattle.wal.proofs.Places.{accepted-says}
+use Rattle.wal_position.proofs.Checks.{Sound, sound-passes, passed-sound, unless-passed}
+use Rattle.wal_writer.proofs.Places.{accepted-says}
 use Rattle.wal.proofs.Prefixes.{onwards, walk-end, Resumes, walk-resumes}
 use Rattle.rows.specs.Rows.{rowsOf}
-use Rattle.rows.specs.Tables.{upserted}
+use Rattle.tables.specs.Tables.{upserted}
 use Rattle.replay.specs.Items.{Read}
 use Rattle.replay.specs.Rules.{gather, blocks, setOf, index}
-use Rattle.replay.specs.Recovery.{blockCheck, replayed, Lent, recover, refused, recovered, committeeCheck}
+use Rattle.replay.specs.Recovery.{blockCheck, replayed, Lent, recover, refused, recovered}
+use Rattle.committee.specs.Committee.{committeeCheck}
 use Rattle.replay.proofs.Applied.{references}
 use Rattle.state.specs.Tables.{blockRow, lentOf, summaryOf, emptyReplay}
 use Rattle.state.specs.declared.Replay.{Replay}
 use Rattle.state.specs.Holding.{AllDigested, blockNumber}
 use Rattle.state.proofs.BlockEntries.{number-below}
 use Rattle.state.proofs.Empty.{replay-empty}
-use Rattle.recovery.specs.Answers.{Answers, indexRows}
-use Rattle.recovery.specs.declared.Recovered.{Recovered}
+use Rattle.replay_log.specs.Answers.{Answers, indexRows}
+use Rattle.recovered.specs.declared.Recovered.{Recovered}
 use Rattle.store.specs.declared.BlockStore.{BlockStore}
-use Rattle.store.specs.Store.{indexed, openedOf, callCheck, cleanIndex}
+use Rattle.store.specs.Store.{indexed, openedOf, callCheck}
+use Rattle.cleanup.specs.Cleanup.{cleanIndex}
 use Rattle.store.proofs.Checked.{call-checked}
-use Rattle.insert.specs.declared.Inserted.{Inserted}
-use Rattle.insert.specs.Insert.{Insertion, insert, insertion, insertedOf, imageWith, indexWith, loadedRow, storeWith, Inserts}
+use Rattle.indexing.specs.declared.Inserted.{Inserted}
+use Rattle.indexing.specs.Indexing.{Insertion, insert, insertedOf, imageWith, indexWith, loadedRow, storeWith}
+use Rattle.insert.specs.Insert.{insertion, Inserts}
 use Rattle.insert.proofs.Kept.{Passed, accepted-passed}
 use Rattle.insert.proofs.Numbers.{Put, zero-accepted}
-use Rattle.lookup.specs.Lookups.{counted}
+use Rattle.query.specs.Query.{counted}
 use Rattle.cut.specs.PlainLog.{Append}
 use Rattle.cut.specs.Cut.{Store, usedAfter, answerOf, next}
 use Rattle.cut.proofs.Growing.{walk-grows, grown-long}

@@ -9,23 +9,23 @@ use lib.Seq.{set-set, take-set-le}
 use Rattle.laws.specs.Pick.{pick}
 use Rattle.laws.specs.Bytes.{written, zeros}
 use Rattle.laws.proofs.Tests.{leb-cases, eqb-cases}
-use Rattle.wal.specs.Checks.{unless}
+use Rattle.wal_position.specs.Checks.{unless}
 use Rattle.rows.specs.declared.Place.{Place}
 use Rattle.rows.specs.declared.Place.the-variants.{At, Gap}
-use Rattle.rows.specs.declared.Upserted.the-variants.{Count, Full}
+use Rattle.tables.specs.declared.Upserted.the-variants.{Count, Full}
 use Rattle.rows.specs.Rows.{rowsOf, flat, key, compared, placeOf, Ascending}
-use Rattle.rows.specs.Tables.{tableOf, Eights, upserted, upsertCount, putRow}
+use Rattle.tables.specs.Tables.{tableOf, Eights, upserted, upsertCount, putRow}
 use Rattle.rows.proofs.Lexicographic.{order-cases}
 use Rattle.rows.proofs.Rows.{length-rowsOf, rowsOf-put, rowsOf-inserted}
 use Rattle.rows.proofs.Places.{at-place, gap-place}
-use Rattle.rows.proofs.Stores.{at-within, at-words, at-count, gap-within, gap-words, gap-count, full-count}
-use Rattle.rows.proofs.Tables.{eights-rowsOf, rowsOf-flat, put-present, put-absent, put-before, put-here, put-later}
+use Rattle.tables.proofs.Stores.{at-within, at-words, at-count, gap-within, gap-words, gap-count, full-count}
+use Rattle.tables.proofs.Tables.{eights-rowsOf, rowsOf-flat, put-present, put-absent, put-before, put-here, put-later}
 use Rattle.index.specs.Keys.{keyWords, digestWords, indexRow}
 use Rattle.replay.specs.Rules.{Block}
 use Rattle.state.specs.Tables.{blockRow}
 use Rattle.state.proofs.Rows.{length-indexRow}
-use Rattle.store.specs.Store.{unload, cleanIndex}
-use Rattle.insert.specs.Insert.{loadedRow}
+use Rattle.cleanup.specs.Cleanup.{unload, cleanIndex}
+use Rattle.indexing.specs.Indexing.{loadedRow}
 use Rattle.types.specs.declared.BlockReference.{BlockReference}
 use Rattle.reopened.specs.Reopened.{unloadedRow}
 

@@ -10,14 +10,15 @@ use Rattle.types.specs.declared.BlockReference.{BlockReference}
 use Rattle.rows.specs.Rows.{key}
 use Rattle.index.specs.Keys.{keyWords}
 use Rattle.replay.specs.Items.{Read}
-use Rattle.replay.specs.Recovery.{committeeCheck, recover, recovered}
+use Rattle.committee.specs.Committee.{committeeCheck}
+use Rattle.replay.specs.Recovery.{recover, recovered}
 use Rattle.wal.specs.Walk.{Stop}
 use Rattle.state.specs.Tables.{lentOf}
-use Rattle.recovery.specs.declared.Recovered.{Recovered}
-use Rattle.recovery.specs.Answers.{Answers}
+use Rattle.recovered.specs.declared.Recovered.{Recovered}
+use Rattle.replay_log.specs.Answers.{Answers}
 use Rattle.store.specs.declared.BlockStore.{BlockStore}
 use Rattle.store.specs.Store.{indexed, openedOf, callCheck}
-use Rattle.lookup.specs.Lookups.{got, blockAt}
+use Rattle.block_reader.specs.Reading.{got, blockAt}
 use Rattle.cut.specs.Cut.{Store}
 use Rattle.reopened.specs.Reopened.{Made}
 

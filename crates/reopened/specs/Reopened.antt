@@ -11,16 +11,18 @@ use Rattle.laws.specs.Parse.{bad}
 use Rattle.types.specs.Records.{payload}
 use Rattle.replay.specs.Items.{isPayload, refuse, item, judge, Read}
 use Rattle.replay.specs.Rules.{pending}
-use Rattle.replay.specs.Recovery.{Lent, committeeCheck, rowsCheck, recover, refused, recovered}
-use Rattle.wal.specs.Entries.{Entry}
+use Rattle.replay.specs.Recovery.{Lent, rowsCheck, recover, refused, recovered}
+use Rattle.committee.specs.Committee.{committeeCheck}
+use Rattle.wal_reader.specs.Entries.{Entry}
 use Rattle.wal.specs.Walk.{Stop, walk}
 use Rattle.state.specs.Tables.{lentOf, emptyReplay, summaryOf}
-use Rattle.recovery.specs.declared.Recovered.{Recovered}
-use Rattle.recovery.specs.Answers.{Answers, indexRows}
+use Rattle.recovered.specs.declared.Recovered.{Recovered}
+use Rattle.replay_log.specs.Answers.{Answers, indexRows}
 use Rattle.store.specs.declared.BlockStore.{BlockStore}
-use Rattle.store.specs.Store.{indexed, openedOf, cleanupIndex}
-use Rattle.lookup.specs.Lookups.{counted}
-use Rattle.insert.specs.declared.Inserted.{Inserted}
+use Rattle.store.specs.Store.{indexed, openedOf}
+use Rattle.cleanup.specs.Cleanup.{cleanupIndex}
+use Rattle.query.specs.Query.{counted}
+use Rattle.indexing.specs.declared.Inserted.{Inserted}
 use Rattle.insert.specs.Insert.{Inserts}
 use Rattle.cut.specs.PlainLog.{Append}
 use Rattle.cut.specs.Cut.{Store, next}

@@ -12,8 +12,8 @@ use Rattle.crypto.specs.Records.{digest, digestBytes, signature, signatureBytes
 use Rattle.types.specs.declared.BlockReference.{BlockReference}
 use Rattle.types.specs.Records.{reference, referenceBytes, statement, block, blockBytes, payload}
 use Rattle.commits.specs.Records.{ownBlock, ownBlockBytes, commitData, commit}
-use Rattle.wal.specs.Checks.{unless}
-use Rattle.wal.specs.Entries.{Entry}
+use Rattle.wal_position.specs.Checks.{unless}
+use Rattle.wal_reader.specs.Entries.{Entry}
 use Rattle.wal.specs.Walk.{END}
 use Rattle.rows.specs.Rows.{compared, choose}
 use Rattle.replay.specs.Items.{judge, Read, blockIn}

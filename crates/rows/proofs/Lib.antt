@@ -7,5 +7,3 @@ pub mod Leading
 pub mod Comparing
 pub mod Testing
 pub mod Searching
-pub mod Stores
-pub mod Tables

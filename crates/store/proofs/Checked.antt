@@ -8,11 +8,11 @@ use lib.Dec.{leb}
 use lib.ListN.{length}
 use borrow.Author.Tests.{leb-true, ltb-true, le-leb, lt-leb}
 use Rattle.laws.specs.Pick.{pick}
-use Rattle.wal.specs.Checks.{logCheck, unless}
-use Rattle.wal.proofs.Checks.{unless-passed, unless-refused}
+use Rattle.wal_position.specs.Checks.{logCheck, unless}
+use Rattle.wal_position.proofs.Checks.{unless-passed, unless-refused}
 use Rattle.rows.specs.Rows.{rowsOf, ascendingb, Ascending}
 use Rattle.rows.proofs.Ascending.{ascendingb-decides}
-use Rattle.replay.specs.Recovery.{committeeCheck}
+use Rattle.committee.specs.Committee.{committeeCheck}
 use Rattle.store.specs.declared.BlockStore.{BlockStore}
 use Rattle.store.specs.Store.{indexed, authoritiesBelow, storeCheck, callCheck}
 

@@ -8,7 +8,7 @@ use lib.ListN.{length, take, getD}
 use Rattle.laws.proofs.Tests.{leb-cases}
 use Rattle.rows.specs.declared.Order.the-variants.{Below}
 use Rattle.rows.specs.Rows.{key, compared, Ascending}
-use Rattle.rows.specs.Tables.{Eights}
+use Rattle.tables.specs.Tables.{Eights}
 use Rattle.rows.proofs.Lexicographic.{not-above, first-above}
 
 first-ascends : (r s : List ℕ) → 1 ≤ length r → 1 ≤ length s → compared (key r) (key s) ≡ Below → getD r 0 0 ≤ getD s 0 0

@@ -8,9 +8,9 @@ use lib.Seq.{set-append-left, take-set-le, drop-set-add, drop-drop}
 use Rattle.laws.specs.Bytes.{bytesAt, written}
 use Rattle.laws.proofs.Written.{length-bytesAt, getD-bytesAt}
 use Rattle.rows.specs.Rows.{rowsOf, rowAt}
-use Rattle.rows.specs.Tables.{Eights}
+use Rattle.tables.specs.Tables.{Eights}
 use Rattle.rows.proofs.Rows.{rowsOf-add, rowsFrom}
-use Rattle.rows.proofs.Tables.{eights-rowsOf}
+use Rattle.tables.proofs.Tables.{eights-rowsOf}
 
 pub word-rowAt : (w : List ℕ) (i j : ℕ) → j < 8 → getD (rowAt w i) j 0 ≡ getD w (8 * i + j) 0
 unfolding rowAt

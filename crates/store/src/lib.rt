@@ -1,22 +1,18 @@
-// The block store (block_store.rs, BlockStore and BlockStoreInner): its checks, the questions that
-// read no block, and cleanup. The store is a value; its index rows are lent.
+// The block store (block_store.rs, BlockStore and BlockStoreInner): a value, whose index rows are lent, and the
+// checks with which its calls begin.
 ghost use mathlib.Core.Path.{_≡_};
-ghost use mathlib.Core.List.{map};
 ghost use mathlib.Core.Bool.{true, false};
 ghost use Prim.Native.Nat.{_+_, _*_, _≤_};
 ghost use lib.Dec.{leb, ltb};
 ghost use lib.ListN.{length, getD};
-ghost use Rattle.laws.specs.Bytes.{written};
 ghost use Rattle.laws.specs.Pick.{pick};
-ghost use Rattle.rows.specs.Rows.{rowsOf, flat, Ascending, ascendingb};
-ghost use Rattle.store.specs.Store.{authoritiesBelow, storeCheck, callCheck, blockExists, blockExistsAt, allBlocksExistAt, roundThere, allExist, unload, unloads, cleanupAnswer, cleanupIndex, openedOf, lastSeenOf};
+ghost use Rattle.rows.specs.Rows.{rowsOf, ascendingb};
+ghost use Rattle.store.specs.Store.{authoritiesBelow, storeCheck, callCheck, openedOf, lastSeenOf};
 use index::FoundReference;
 use index::StoreSummary;
 use rows::Order;
-use rows::Place;
 use state::Replay;
 use types::AuthorityIndex;
-use types::BlockReference;
 use types::RoundNumber;
 
 // The committee's size and the own authority, the index rows counted, the blocks read from the log
@@ -27,19 +23,6 @@ pub struct BlockStore {
     pub rows: usize,
     pub loads: u64,
     pub summary: StoreSummary,
-}
-
-// A yes or no, or a refusal's number.
-pub enum Answer {
-    Yes,
-    No,
-    Refused(u8),
-}
-
-// How many blocks were unloaded, or a refusal's number.
-pub enum Cleaned {
-    Unloaded(u64),
-    Refused(u8),
 }
 
 impl BlockStore {
@@ -126,7 +109,7 @@ fn check_last(index: &[u64], count: usize, i: usize, size: u64) -> bool
 pub fn check_store(store: BlockStore, index: &[u64]) -> u8
     ensures { λ r. ⌜ r ≡ storeCheck store (now (index .entry)) ⌝ }
 {
-    let number = recovery::check_committee(store.committee_size, store.authority);
+    let number = committee::check_committee(store.committee_size, store.authority);
     if number != 0 {
         return number;
     }
@@ -143,154 +126,9 @@ pub fn check_store(store: BlockStore, index: &[u64]) -> u8
 pub fn check_call(k: u64, image: &[u8], used: u64, store: BlockStore, index: &[u64]) -> u8
     ensures { λ r. ⌜ r ≡ callCheck k used (length (now (image .entry))) store (now (index .entry)) ⌝ }
 {
-    let number = wal::check_log(k, used, image.len() as u64);
+    let number = wal_position::check_log(k, used, image.len() as u64);
     if number != 0 {
         return number;
     }
     check_store(store, index)
-}
-
-// Whether the reference is indexed.
-pub fn block_exists(
-    k: u64,
-    image: &[u8],
-    used: u64,
-    store: BlockStore,
-    index: &[u64],
-    reference: BlockReference,
-) -> Answer
-    ensures { λ r. ⌜ r ≡ blockExists k (now (image .entry)) used store (now (index .entry)) reference ⌝ }
-{
-    let number = check_call(k, image, used, store, index);
-    if number != 0 {
-        return Answer::Refused(number);
-    }
-    match rows::find(index, store.rows, index::key_of(reference)) {
-        Place::At(_) => Answer::Yes,
-        Place::Gap(_) => Answer::No,
-    }
-}
-
-// Whether an authority has a block in a round.
-pub fn block_exists_at_authority_round(
-    k: u64,
-    image: &[u8],
-    used: u64,
-    store: BlockStore,
-    index: &[u64],
-    authority: AuthorityIndex,
-    round: RoundNumber,
-) -> Answer
-    ensures { λ r. ⌜ r ≡ blockExistsAt k (now (image .entry)) used store (now (index .entry)) authority round ⌝ }
-{
-    let number = check_call(k, image, used, store, index);
-    if number != 0 {
-        return Answer::Refused(number);
-    }
-    if index::exists_at(index, store.rows, authority, round) {
-        return Answer::Yes;
-    }
-    Answer::No
-}
-
-// Whether one of the ascending rows has this round: the lowest would stand at the place of authority
-// 0 and digest 0.
-fn round_exists(index: &[u64], count: usize, round: RoundNumber) -> bool
-    requires { ⌜ (8 * count ≤ length (now index)) × Ascending (rowsOf count (now index)) ⌝ }
-    ensures { λ r. ⌜ r ≡ roundThere round (rowsOf count (now (index .entry))) ⌝ }
-{
-    match rows::find(index, count, [round, 0, 0, 0, 0, 0]) {
-        Place::At(_) => true,
-        Place::Gap(i) => {
-            if count <= i {
-                return false;
-            }
-            index[8 * i] == round
-        }
-    }
-}
-
-// Whether each of the authorities has a block in a round.
-fn all_exist(index: &[u64], count: usize, authorities: &[u64], round: RoundNumber) -> bool
-    requires { ⌜ (8 * count ≤ length (now index)) × Ascending (rowsOf count (now index)) ⌝ }
-    ensures { λ r. ⌜ r ≡ allExist (now (authorities .entry)) round (rowsOf count (now (index .entry))) ⌝ }
-{
-    let mut i = 0;
-    while i < authorities.len() {
-        if !index::exists_at(index, count, authorities[i], round) {
-            return false;
-        }
-        i += 1;
-    }
-    true
-}
-
-// Whether each of the authorities has a block in a round; no in a round without blocks.
-pub fn all_blocks_exists_at_authority_round(
-    k: u64,
-    image: &[u8],
-    used: u64,
-    store: BlockStore,
-    index: &[u64],
-    authorities: &[u64],
-    round: RoundNumber,
-) -> Answer
-    ensures { λ r. ⌜ r ≡ allBlocksExistAt k (now (image .entry)) used store (now (index .entry)) (now (authorities .entry)) round ⌝ }
-{
-    let number = check_call(k, image, used, store, index);
-    if number != 0 {
-        return Answer::Refused(number);
-    }
-    if !round_exists(index, store.rows, round) {
-        return Answer::No;
-    }
-    if all_exist(index, store.rows, authorities, round) {
-        return Answer::Yes;
-    }
-    Answer::No
-}
-
-// Unloads the blocks of the rows up to round t, which ascend, and counts those that were loaded.
-fn unload_below_round(index: &mut [u64], count: usize, t: RoundNumber) -> u64
-    requires { ⌜ (8 * count ≤ length (now index)) × Ascending (rowsOf count (now index)) ⌝ }
-    ensures { λ r. ⌜ r ≡ unloads t (rowsOf count (now (index .entry))) ⌝ }
-    ensures { λ _. ⌜ now (index .exit) ≡ written (now (index .entry)) 0 (flat (map (unload t) (rowsOf count (now (index .entry))))) ⌝ }
-{
-    let mut unloaded = 0;
-    let mut i = 0;
-    while i < count {
-        if t < index[8 * i] {
-            return unloaded;
-        }
-        if index[8 * i + 7] == 0 {
-            i += 1;
-        } else {
-            index[8 * i + 7] = 0;
-            unloaded += 1;
-            i += 1;
-        }
-    }
-    unloaded
-}
-
-// Unloads rounds up to t; t = 0 does nothing.
-pub fn cleanup(
-    k: u64,
-    image: &[u8],
-    used: u64,
-    store: BlockStore,
-    index: &mut [u64],
-    t: RoundNumber,
-) -> Cleaned
-    ensures { λ r. ⌜ r ≡ cleanupAnswer k (now (image .entry)) used store (now (index .entry)) t ⌝ }
-    ensures { λ _. ⌜ now (index .exit) ≡ cleanupIndex k (now (image .entry)) used store (now (index .entry)) t ⌝ }
-{
-    let number = check_call(k, image, used, store, index);
-    if number != 0 {
-        return Cleaned::Refused(number);
-    }
-    if t == 0 {
-        return Cleaned::Unloaded(0);
-    }
-    Cleaned::Unloaded(unload_below_round(index, store.rows, t))
 }

@@ -13,15 +13,15 @@
 // has them.
 ghost use Prim.Native.Nat.{_≤_};
 use bincode::Number;
+use cleanup::Cleaned;
+use exists::Answer;
 use index::FoundReference;
 use index::StoreSummary;
 use insert::Inserted;
 use libc::STDIN_FILENO;
 use libc::STDOUT_FILENO;
 use lookup::Looked;
-use store::Answer;
 use store::BlockStore;
-use store::Cleaned;
 use types::BlockReference;
 use types::TransactionLocator;
 use wal::WalWriter;
@@ -278,7 +278,7 @@ fn do_insert(t: Setting, tag: u64, payload: &[u8], image: &mut [u8], index: &mut
 }
 
 fn do_cleanup(t: Setting, round: u64, image: &[u8], index: &mut [u64]) {
-    let r = store::cleanup(t.k, image, t.used, t.store, index, round);
+    let r = cleanup::cleanup(t.k, image, t.used, t.store, index, round);
     text(b"cleanup");
     match r {
         Cleaned::Unloaded(n) => {
@@ -294,12 +294,12 @@ fn do_cleanup(t: Setting, round: u64, image: &[u8], index: &mut [u64]) {
 
 fn do_block_exists(t: Setting, reference: BlockReference, image: &[u8], index: &[u64]) {
     text(b"block_exists");
-    show_answer(store::block_exists(t.k, image, t.used, t.store, index, reference));
+    show_answer(exists::block_exists(t.k, image, t.used, t.store, index, reference));
 }
 
 fn do_exists_at(t: Setting, authority: u64, round: u64, image: &[u8], index: &[u64]) {
     text(b"block_exists_at_authority_round");
-    show_answer(store::block_exists_at_authority_round(
+    show_answer(exists::block_exists_at_authority_round(
         t.k,
         image,
         t.used,
@@ -312,7 +312,7 @@ fn do_exists_at(t: Setting, authority: u64, round: u64, image: &[u8], index: &[u
 
 fn do_all_exist(t: Setting, authorities: &[u64], round: u64, image: &[u8], index: &[u64]) {
     text(b"all_blocks_exists_at_authority_round");
-    show_answer(store::all_blocks_exists_at_authority_round(
+    show_answer(exists::all_blocks_exists_at_authority_round(
         t.k,
         image,
         t.used,
@@ -362,9 +362,18 @@ fn look(
         );
     }
     if kind == 7 {
-        return lookup::get_own_blocks(t.k, image, t.used, t.store, index, one, two as usize, out);
+        return lookup_after::get_own_blocks(
+            t.k,
+            image,
+            t.used,
+            t.store,
+            index,
+            one,
+            two as usize,
+            out,
+        );
     }
-    lookup::get_others_blocks(
+    lookup_after::get_others_blocks(
         t.k,
         image,
         t.used,

@@ -21,9 +21,9 @@ use Rattle.types.specs.Records.{StatementValue, share, statement, BlockValue, b
 use Rattle.blocks.specs.Answers.{blockOf}
 use Rattle.blocks.proofs.Passes.{runs, block-statement-step}
 use Rattle.store.specs.declared.BlockStore.{BlockStore}
-use Rattle.lookup.specs.Lookups as lookups
-use Rattle.lookup.specs.Lookups.{blockAt}
-use Rattle.lookup.proofs.Decoding.{Decoded, read-decodes}
+use Rattle.block_reader.specs.Reading as reading
+use Rattle.block_reader.specs.Reading.{blockAt}
+use Rattle.block_reader.proofs.Decoding.{Decoded, read-decodes}
 use Rattle.transaction.specs.declared.Share.{Share}
 use Rattle.transaction.specs.Transaction.{noShare, shareIn, placed, transactionOf, shareBytes, transactionIn, named}
 use Rattle.transaction.proofs.Shares.{given, next-lies, share-within}
@@ -78,7 +78,7 @@ pub record Names (k : ℕ) (s : List ℕ) (used : ℕ) (store : BlockStore) (off
   pub transaction : named s (transactionOf k s used store offset (row ∷ []) .share) ≡ transactionIn (block .value .statements) offset
 
 pub transaction-named : (k : ℕ) (s : List ℕ) (used : ℕ) (store : BlockStore) (offset : ℕ) (row : List ℕ) → AllBytes s
-    → {r : BlockReference} {at n : ℕ} → blockAt k s used (getD row 6 0) ≡ lookups.BlockRead.got r at n
+    → {r : BlockReference} {at n : ℕ} → blockAt k s used (getD row 6 0) ≡ reading.BlockRead.got r at n
     → Names k s used store offset row r at n
 unfolding transactionOf
 transaction-named k s used store offset row all {r} {at} {n} is =

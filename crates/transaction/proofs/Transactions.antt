@@ -11,26 +11,28 @@ use Rattle.laws.specs.Pick.{pick}
 use Rattle.laws.specs.Bytes.{bytesAt}
 use Rattle.laws.proofs.Written.{length-bytesAt}
 use Rattle.types.specs.declared.BlockReference.{BlockReference}
-use Rattle.wal.proofs.Checks.{unless-passed, unless-refused}
+use Rattle.wal_position.proofs.Checks.{unless-passed, unless-refused}
 use Rattle.rows.specs.declared.Place.the-variants.{At}
 use Rattle.rows.specs.Rows.{rowsOf, rowAt, Ascending, placeOf}
 use Rattle.rows.proofs.Rows.{rowsFrom-none, rowsFrom-cons}
 use Rattle.index.specs.Keys.{keyWords}
 use Rattle.store.specs.declared.BlockStore.{BlockStore}
-use Rattle.lookup.specs.declared.ReadBlock.{ReadBlock}
-use Rattle.lookup.specs.Lookups.{blockAt, unloaded, counted, byReference}
-use Rattle.lookup.specs.Lookups as lookups
-use Rattle.lookup.specs.Collecting.{between, readOf}
+use Rattle.block_reader.specs.declared.ReadBlock.{ReadBlock}
+use Rattle.block_reader.specs.Reading.{blockAt, readOf}
+use Rattle.query.specs.Query.{unloaded, counted}
+use Rattle.filters.specs.Filters.{byReference}
+use Rattle.block_reader.specs.Reading as reading
+use Rattle.filters.specs.Segments.{between}
 use Rattle.store.proofs.Words.{word-rowAt}
-use Rattle.lookup.proofs.Keeping.{chosen-every, between-rows, length-between}
-use Rattle.lookup.proofs.Reading.{blockAt-numbered}
-use Rattle.lookup.proofs.Collecting.{told-refused, one-unloaded}
-use Rattle.lookup.proofs.Queries.{at-reference}
+use Rattle.filters.proofs.Keeping.{chosen-every, between-rows, length-between}
+use Rattle.block_reader.proofs.Reading.{blockAt-numbered, told-refused}
+use Rattle.query.proofs.Collecting.{one-unloaded}
+use Rattle.filters.proofs.Queries.{at-reference}
 use Rattle.transaction.specs.declared.Share.{Share}
 use Rattle.transaction.specs.declared.Transaction.{Transaction}
 use Rattle.transaction.specs.Transaction.{noShare, shareIn, placed, refusedAnswer, transactionOf, transactionAnswer}
 use Rattle.transaction.proofs.Shares.{share-within}
-use Rattle.lookup.proofs.Blocks.{block-got, block-within}
+use Rattle.block_reader.proofs.Blocks.{block-got, block-within}
 
 -- ---- A Share behind the block's place
 
@@ -46,12 +48,12 @@ module _ (at : ℕ) (t : Share) where
 -- ---- The transaction of a row
 
 module _ (k : ℕ) (s : List ℕ) (used : ℕ) (store : BlockStore) (offset : ℕ) (r : List ℕ) where
-  of-refused : {n : ℕ} → blockAt k s used (getD r 6 0) ≡ lookups.BlockRead.refused n
+  of-refused : {n : ℕ} → blockAt k s used (getD r 6 0) ≡ reading.BlockRead.refused n
       → refusedAnswer n store ≡ transactionOf k s used store offset (r ∷ [])
   unfolding transactionOf
   of-refused is = sym (rw is)
 
-  of-got : {reference : BlockReference} {at n : ℕ} → blockAt k s used (getD r 6 0) ≡ lookups.BlockRead.got reference at n
+  of-got : {reference : BlockReference} {at n : ℕ} → blockAt k s used (getD r 6 0) ≡ reading.BlockRead.got reference at n
       → record { number = 0; share = placed at (shareIn (bytesAt s at n) offset); store = counted store (unloaded (r ∷ [])) }
       ≡ transactionOf k s used store offset (r ∷ [])
   unfolding transactionOf

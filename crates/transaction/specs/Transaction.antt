@@ -11,11 +11,13 @@ use Rattle.bincode.specs.Cursors.{next, after}
 use Rattle.types.specs.declared.TransactionLocator.{TransactionLocator}
 use Rattle.types.specs.Records.{StatementValue, share, voteOn, voteRange, statement, BlockValue, block}
 use Rattle.blocks.specs.Answers as blocks
-use Rattle.wal.specs.Checks.{unless}
+use Rattle.wal_position.specs.Checks.{unless}
 use Rattle.store.specs.declared.BlockStore.{BlockStore}
 use Rattle.store.specs.Store.{indexed, callCheck}
-use Rattle.lookup.specs.Lookups as lookups
-use Rattle.lookup.specs.Lookups.{BlockRead, blockAt, byReference, unloaded, counted}
+use Rattle.block_reader.specs.Reading as reading
+use Rattle.block_reader.specs.Reading.{BlockRead, blockAt}
+use Rattle.filters.specs.Filters.{byReference}
+use Rattle.query.specs.Query.{unloaded, counted}
 use Rattle.transaction.specs.declared.Share.{Share}
 use Rattle.transaction.specs.declared.Transaction.{Transaction}
 
@@ -47,8 +49,8 @@ transactionOf k s used store offset [] = record { number = 0; share = noShare; s
 transactionOf k s used store offset (r ∷ rows) = from (blockAt k s used (getD r 6 0))
   where
     from : BlockRead → Transaction
-    from (lookups.BlockRead.refused n) = refusedAnswer n store
-    from (lookups.BlockRead.got reference at n) =
+    from (reading.BlockRead.refused n) = refusedAnswer n store
+    from (reading.BlockRead.got reference at n) =
         record { number = 0; share = placed at (shareIn (bytesAt s at n) offset); store = counted store (unloaded (r ∷ [])) }
 
 -- `n` is the number of 1, 2 and 18, `chosen` the rows with the locator's reference

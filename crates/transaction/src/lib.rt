@@ -12,7 +12,7 @@ use rows::Place;
 use statements::StatementKind;
 use store::BlockStore;
 use types::TransactionLocator;
-use wal::WalPosition;
+use wal_position::WalPosition;
 
 // The place and the number of a Share's bytes. Zero where there is none.
 pub struct Share {
@@ -101,14 +101,14 @@ fn read_share(
     requires { ⌜ 8 * i + 8 ≤ length (now index) ⌝ }
     ensures { λ r. ⌜ r ≡ transactionOf k (now (image .entry)) used store offset (rowAt (now (index .entry)) i ∷ []) ⌝ }
 {
-    let b = lookup::read_block(k, image, used, WalPosition(index[8 * i + 6]));
+    let b = block_reader::read_block(k, image, used, WalPosition(index[8 * i + 6]));
     if b.number != 0 {
         return refuse(b.number, store);
     }
     let at = b.at;
     let end = at + b.len;
     let found = share_in(&image[at..end], offset);
-    let counted = lookup::count_loads(store, lookup::not_loaded(index, i));
+    let counted = query::count_loads(store, filters::not_loaded(index, i));
     if !found.there {
         return Transaction {
             number: 0,

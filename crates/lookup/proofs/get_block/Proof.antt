@@ -7,9 +7,9 @@ use lib.ListN.{length}
 use Rattle.store.specs.Store.{indexed, callCheck}
 use Rattle.store.proofs.Checked.{Checked}
 use Rattle.rows.specs.Rows.{rowsOf, placeOf}
-use Rattle.lookup.specs.Lookups.{byReference}
-use Rattle.lookup.proofs.Answering.{passed-call, checked-call, cleared, query-refused, query-answers, query-nothing}
-use Rattle.lookup.proofs.Queries.{at-reference, no-reference}
+use Rattle.filters.specs.Filters.{byReference}
+use Rattle.query.proofs.Answering.{passed-call, checked-call, cleared, query-refused, query-answers, query-nothing}
+use Rattle.filters.proofs.Queries.{at-reference, no-reference}
 use borrow.Author.Needs.{needs}
 use Rattle.lookup.proofs.get_block.Statement.{statement}
 use Rattle.lookup.proofs.get_block.Tie as tie

@@ -3,10 +3,10 @@ use mathlib.Core.Path.{_∙_}
 use lib.ListN.{length}
 use Rattle.store.specs.Store.{indexed, callCheck}
 use Rattle.store.proofs.Checked.{Checked}
-use Rattle.lookup.specs.Lookups.{byRound}
-use Rattle.lookup.specs.Collecting.{between, chosen}
-use Rattle.lookup.proofs.Answering.{passed-call, checked-call, cleared, query-refused, query-answers}
-use Rattle.lookup.proofs.Queries.{round-within, of-round}
+use Rattle.filters.specs.Filters.{byRound}
+use Rattle.filters.specs.Segments.{between, chosen}
+use Rattle.query.proofs.Answering.{passed-call, checked-call, cleared, query-refused, query-answers}
+use Rattle.filters.proofs.Queries.{round-within, of-round}
 use mathlib.Core.Bool.{true}
 use borrow.Author.Needs.{needs}
 use Rattle.lookup.proofs.get_blocks_by_round.Statement.{statement}

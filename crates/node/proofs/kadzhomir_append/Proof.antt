@@ -1,7 +1,7 @@
 -- `node::kadzhomir_append` meets its contract: it is what `wal::append` answers, in words. Assumes nothing.
 use borrow.Author.Needs.{needs}
 use mathlib.Core.Path.{ap, _∙_}
-use Rattle.node_answers.specs.Answers.{appendNumber, appendWords}
+use Rattle.node_log.specs.Answers.{appendNumber, appendWords}
 use Rattle.node.proofs.Calls.{in-words}
 use Rattle.node.proofs.kadzhomir_append.Statement.{statement}
 use Rattle.node.proofs.kadzhomir_append.Tie as tie

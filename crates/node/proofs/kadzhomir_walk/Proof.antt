@@ -1,7 +1,7 @@
 -- `node::kadzhomir_walk` meets its contract: it is what `wal::walk` answers, in words. Assumes nothing.
 use borrow.Author.Needs.{needs}
 use mathlib.Core.Path.{ap, _∙_}
-use Rattle.node_answers.specs.Answers.{walkNumber, walkWords}
+use Rattle.node_log.specs.Answers.{walkNumber, walkWords}
 use Rattle.node.proofs.Calls.{in-words}
 use Rattle.node.proofs.kadzhomir_walk.Statement.{statement}
 use Rattle.node.proofs.kadzhomir_walk.Tie as tie

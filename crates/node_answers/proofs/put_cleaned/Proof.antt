@@ -2,7 +2,7 @@
 use borrow.Author.Needs.{needs}
 use mathlib.Core.Path.{refl}
 use Rattle.node_answers.specs.Answers.{cleanedNumber, cleanedWords}
-use Rattle.node_answers.proofs.Giving.{gives-as}
+use Rattle.node_log.proofs.Giving.{gives-as}
 use Rattle.node_answers.proofs.put_cleaned.Statement.{statement}
 use Rattle.node_answers.proofs.put_cleaned.Tie as tie
 

@@ -1,4 +1,4 @@
--- `text::put_decimal` meets its contract, by the two equations of `decimal`. The measure is n. Assumes nothing.
+-- `text::+put_decimal` meets its contract, by the two equations of `decimal`. The measure is n. Assumes nothing.
 use borrow.Author.Needs.{needs}
 use mathlib.Core.Path.{refl}
 use borrow.Fn.Kinds.{In}

@@ -7,9 +7,9 @@ use borrow.Author.Needs.{needs}
 use Rattle.rows.specs.Rows.{rowsOf, placeOf}
 use Rattle.store.specs.Store.{indexed, callCheck}
 use Rattle.store.proofs.Checked.{Checked}
-use Rattle.lookup.specs.Lookups.{byReference}
-use Rattle.lookup.proofs.Answering.{passed-call, checked-call}
-use Rattle.lookup.proofs.Queries.{no-reference}
+use Rattle.filters.specs.Filters.{byReference}
+use Rattle.query.proofs.Answering.{passed-call, checked-call}
+use Rattle.filters.proofs.Queries.{no-reference}
 use Rattle.transaction.specs.Transaction.{noShare, transactionOf}
 use Rattle.transaction.proofs.Transactions.{row-fits, row-reference, call-refused, call-passed}
 use Rattle.transaction.proofs.get_transaction.Statement.{statement}

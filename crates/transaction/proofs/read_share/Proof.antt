@@ -6,9 +6,9 @@ use native.Mathlib.Omega.{arith}
 use lib.ListN.{getD}
 use borrow.Author.Needs.{needs}
 use borrow.Author.Tests.{not-true, not-false}
-use Rattle.recovery.proofs.Parts.{part-is}
+use Rattle.laws.proofs.Parts.{part-is}
 use Rattle.transaction.specs.Transaction.{noShare, shareIn}
-use Rattle.lookup.proofs.Blocks.{block-within}
+use Rattle.block_reader.proofs.Blocks.{block-within}
 use Rattle.transaction.proofs.Transactions.{placed-none, placed-there, row-refused, row-within, row-answer}
 use Rattle.transaction.proofs.read_share.Statement.{statement}
 use Rattle.transaction.proofs.read_share.Tie as tie

@@ -1,0 +1,4 @@
+pub mod Keeping
+pub mod Segments
+pub mod Rounds
+pub mod Queries

@@ -1,0 +1,4 @@
+pub mod Any
+pub mod Appending
+pub mod Asking
+pub mod Reaching

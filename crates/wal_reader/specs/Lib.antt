@@ -1,0 +1,4 @@
+pub mod Entries
+pub mod Look
+pub mod Read
+pub mod Answers

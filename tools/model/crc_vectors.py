@@ -7,6 +7,10 @@ def fill(n, start, step):
     return bytes((start + i * step) % 256 for i in range(n))
 
 
+def apart(n):
+    return bytes((i % 256 * 167 + i // 256 % 256 * 59) % 256 for i in range(n))
+
+
 VECTORS = [
     b"123456789",
     b"",
@@ -29,7 +33,7 @@ VECTORS = [
     bytes(65536),
     fill(65536, 7, 13),
     fill(65536, 7, 13)[:65521],
-]
+] + [apart(n) for n in (63, 64, 65, 127, 128, 129, 255, 256, 257, 1023, 1024, 1025, 1535, 8191, 8192)]
 
 # published values: the CRC catalogue's check value and those listed with common CRC-32 libraries
 PUBLISHED = {

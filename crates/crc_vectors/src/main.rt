@@ -66,9 +66,44 @@ fn long() {
     show_first(65521, &zeros);
 }
 
+// Bytes of which no two runs of 256 are alike, so that no lane is fed what another one is.
+fn fill_apart(bytes: &mut [u8]) {
+    let mut i = 0;
+    while i < bytes.len() {
+        bytes[i] = ((i % 256 * 167 + i / 256 % 256 * 59) % 256) as u8;
+        i += 1;
+    }
+}
+
+// Each number of octets at which blocks of eight lanes begin, one less and one more, and some that have blocks of each length.
+fn show_lengths(bytes: &[u8]) {
+    show_first(63, bytes);
+    show_first(64, bytes);
+    show_first(65, bytes);
+    show_first(127, bytes);
+    show_first(128, bytes);
+    show_first(129, bytes);
+    show_first(255, bytes);
+    show_first(256, bytes);
+    show_first(257, bytes);
+    show_first(1023, bytes);
+    show_first(1024, bytes);
+    show_first(1025, bytes);
+    show_first(1535, bytes);
+    show_first(8191, bytes);
+    show_first(8192, bytes);
+}
+
+fn lengths() {
+    let mut apart = [0u8; 8192];
+    fill_apart(&mut apart);
+    show_lengths(&apart);
+}
+
 fn main() {
     texts();
     bytes();
     ascending();
     long();
+    lengths();
 }

@@ -19,7 +19,7 @@ use std::sync::Arc;
 
 /// The rounds of each measurement; the two sides take turns in each.
 const ROUNDS: usize = 9;
-const SIZES: [usize; 3] = [64, 1 << 10, 64 << 10];
+const SIZES: [usize; 4] = [64, 400, 1 << 10, 64 << 10];
 const BLOCKS: [u64; 3] = [1_000, 10_000, 100_000];
 const AUTHORITIES: u64 = 4;
 
@@ -56,6 +56,7 @@ fn time(times: usize, mut call: impl FnMut()) -> f64 {
 
 fn shown(ns: f64) -> String {
     match ns {
+        n if n < 10.0 => format!("{n:.2} ns"),
         n if n < 1e3 => format!("{n:.0} ns"),
         n if n < 1e6 => format!("{:.2} µs", n / 1e3),
         n if n < 1e9 => format!("{:.2} ms", n / 1e6),
@@ -138,10 +139,28 @@ fn append_and_walk() {
         let log = logs(size, n);
         line(&format!("{size} bytes"), || (time(1, walk_rust) / n as f64, time(1, || walk_port(&log)) / n as f64));
     }
-    head("The checksum alone: 64 MiB, crc32fast against a walk of one entry");
-    let size = 64 << 20;
-    let log = logs(size, 1);
-    line("64 MiB", || (time(1, || drop(black_box(crc32fast::hash(&log.image()[16..])))), time(1, || walk_port(&log))));
+}
+
+/// The port's checksum has no call of its own: it is what a walk takes beyond a walk of as many entries of one byte. What crc32fast takes for
+/// the first byte of each is left out too. The log has no padding: it lies within one region.
+fn checksum() {
+    head("The checksum, for each byte but a payload's first: crc32fast, and the port by walks");
+    for size in SIZES {
+        let n = entries(size);
+        let small = logs(1, n);
+        let log = logs(size, n);
+        let hash = |end: usize| {
+            for entry in log.image().chunks_exact(size + 16) {
+                black_box(crc32fast::hash(&entry[16..end]));
+            }
+        };
+        let bytes = (n * (size - 1)) as f64;
+        line(&format!("{size} bytes"), || {
+            let rust = time(1, || hash(16 + size)) - time(1, || hash(17));
+            let port = time(1, || walk_port(&log)) - time(1, || walk_port(&small));
+            (rust / bytes, port / bytes)
+        });
+    }
 }
 
 // ---- Recovery and lookups
@@ -313,6 +332,7 @@ pub fn main() {
         _ => {
             println!("Processor time; {ROUNDS} rounds each; the ratio is the port's time over the Rust's.");
             append_and_walk();
+            checksum();
             recovery_and_lookups();
         }
     }

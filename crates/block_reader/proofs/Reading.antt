@@ -20,13 +20,14 @@ use Rattle.commits.specs.Records.{OwnBlockValue, ownBlock}
 use Rattle.commits.specs.Answers.{noOwnBlock, ownBlockAnswer}
 use Rattle.wal_position.specs.Checks.{logCheck, unless}
 use Rattle.wal_reader.specs.Entries.{Entry, endOf}
-use Rattle.wal_reader.specs.Look.{Look, past, region-full, no-header, blank, damaged, cut, whole, lookAt}
+use Rattle.wal_reader.specs.Look.{Look}
 use Rattle.wal_reader.specs.Read as read
 use Rattle.wal_reader.specs.Read.{found, readAt}
 use Rattle.wal_reader.specs.Answers.{entryOf, payloadOf, foundOf, readAnswer}
 use Rattle.wal_reader.specs.declared.WalEntry.{WalEntry}
 use Rattle.wal_reader.specs.declared.Found.the-variants.{Entry as Found·Entry, Refused as Found·Refused}
 use Rattle.wal_position.proofs.Checks.{Sound, passed-sound}
+use Rattle.wal_reader.proofs.ReadAnswers.{found-read, checked-whole}
 use Rattle.wal_reader.proofs.Looks.{Numbered, is-past, is-region-full, is-no-header, is-blank, is-damaged, is-cut, is-whole, look-numbered}
 use Rattle.wal.proofs.Walks.{Listed, whole-listed}
 use Rattle.wal.proofs.Steps.{payload-named}
@@ -85,32 +86,11 @@ module _ (a : Entry) where
 
 -- ---- A read
 
--- what a read that was refused, and one that found an entry, tell
+-- what a read that was refused tells
 refused-read : (x : read.Read) {n : ℕ} → Found·Refused n ≡ foundOf x → x ≡ read.Read.refused n
 unfolding foundOf
 refused-read (found a) h = let z : _≡_ {A = ℕ} 0 1 = cc in absurd (omega arith)
 refused-read (read.Read.refused m) h = cc
-
-found-read : (x : read.Read) {e : WalEntry} → Found·Entry e ≡ foundOf x → (a : Entry) × (x ≡ found a) × (e ≡ entryOf a)
-unfolding foundOf
-found-read (found a) h = (a, refl, cc)
-found-read (read.Read.refused m) h = let z : _≡_ {A = ℕ} 0 1 = cc in absurd (omega arith)
-
--- an entry is found where the checks pass and it stands whole
-look-found : (l : Look) {a : Entry} → read.readOf l ≡ found a → l ≡ whole a
-unfolding read.readOf
-look-found past h = cc
-look-found region-full h = cc
-look-found no-header h = cc
-look-found blank h = cc
-look-found (damaged n) h = cc
-look-found cut h = cc
-look-found (whole a) h = cc
-
-unless-found : (n : ℕ) (x : read.Read) {a : Entry} → unless n read.Read.refused x ≡ found a → (n ≡ 0) × (x ≡ found a)
-unfolding unless
-unless-found zero x h = (refl, h)
-unless-found (suc n) x h = (cc, cc)
 
 module _ (k : ℕ) (s : List ℕ) (used p : ℕ) where
   entry-found : {a : Entry} → readAt k s used p ≡ found a → blockAt k s used p ≡ blockIn a
@@ -122,18 +102,12 @@ module _ (k : ℕ) (s : List ℕ) (used p : ℕ) where
   read-refused h = sym (rw (refused-read (readAt k s used p) h))
 
   module _ {e : WalEntry} (h : Found·Entry e ≡ readAnswer k s used p) where
-    checked-whole : (a : Entry) → readAt k s used p ≡ found a → (logCheck k used (length s) ≡ 0) × (lookAt k s used p ≡ whole a)
-    unfolding readAt
-    checked-whole a is =
-        let both = unless-found (logCheck k used (length s)) (read.readOf (lookAt k s used p)) is in
-        (both .0, look-found (lookAt k s used p) (both .1))
-
     -- the entry lies in the image
     pub read-within : (e .position .0 + 16 + e .len ≤ length s) × (e .position .0 + 16 + e .len ≤ 2 ^ 40)
     unfolding entryOf endOf
     read-within =
         let at = found-read (readAt k s used p) h in
-        let both = checked-whole (at .0) (at .1) in
+        let both = checked-whole k s used p (at .0) (at .1) in
         let sound : Sound k used (length s) = passed-sound k used (length s) (both .0) in
         let listed : Listed k s used p (at .0) = whole-listed (both .1) in
         let start : e .position .0 ≡ at .0 .start = ap (λ (e : WalEntry). e .position .0) (at .2) in
@@ -146,7 +120,7 @@ module _ (k : ℕ) (s : List ℕ) (used p : ℕ) where
     unfolding entryOf payloadOf
     read-found =
         let at = found-read (readAt k s used p) h in
-        let both = checked-whole (at .0) (at .1) in
+        let both = checked-whole k s used p (at .0) (at .1) in
         let sound : Sound k used (length s) = passed-sound k used (length s) (both .0) in
         let named : payloadOf s (entryOf (at .0)) ≡ at .0 .payload = payload-named (sound .within) (whole-listed (both .1)) in
         ap (λ (e : WalEntry). blockIn (record { start = e .position .0; tag = e .tag; payload = bytesAt s (e .position .0 + 16) (e .len) })) (at .2)

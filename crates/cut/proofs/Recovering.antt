@@ -20,7 +20,7 @@ module _ (k : ℕ) (s : List ℕ) (used : ℕ) (sound : Sound k used (length s))
   passed : logCheck k used (length s) ≡ 0
   passed = sound-passes k used (length s) sound
 
-  walk-is : walk k s used ≡ walkAt k s used 0 0
+  pub walk-is : walk k s used ≡ walkAt k s used 0 0
   unfolding walk
   walk-is = unless-passed (λ n. record { entries = []; ending = walks.Ending.refused n 0 }) (walkAt k s used 0 0) (logCheck k used (length s)) passed
 

@@ -1,0 +1,6 @@
+pub mod OneToOne
+pub mod Images
+pub mod Reading
+pub mod Walking
+pub mod Limits
+pub mod Request11

@@ -49,9 +49,13 @@ fn walk_and_recovery_are_refused_at_the_damaged_entry() {
     assert_eq!(log.entries().map_while(|e| e.ok()).map(|e| e.position.0).collect::<Vec<_>>(), [0, 21]);
     assert_eq!(log.walk(), Err(refused));
     assert_eq!(log.recover(4, 0).unwrap_err(), refused);
-    // 18 and the entries before it come first, and what stands behind it can still be read.
-    assert_eq!(log.recover(0, 0).unwrap_err().refusal, Refusal::Store);
+    // What stands behind it can still be read.
     assert_eq!(log.read(WalPosition(64)).map(|e| e.len), Ok(5));
+    // The committee comes first, and so does an entry before it that recovery refuses: here by its tag.
+    assert_eq!(log.recover(0, 0).unwrap_err(), RefusedAt { refusal: Refusal::Store, start: WalPosition(0) });
+    log.image_mut()[21 + 12] = 6;
+    assert_eq!(log.recover(4, 0).unwrap_err(), RefusedAt { refusal: Refusal::Tag, start: WalPosition(21) });
+    assert_eq!(log.walk(), Err(refused));
 }
 
 #[test]

@@ -14,10 +14,10 @@ use Rattle.wal_position.proofs.Checks.{Sound, passed-sound, unless-passed, unle
 use Rattle.wal_reader.specs.Entries.{Entry, endOf}
 use Rattle.wal_reader.specs.Look.{damaged, lookAt}
 use Rattle.wal.specs.Walk as walks
-use Rattle.wal.specs.Walk.{Stop, Move, stop, go, refuse, list, move, moveAt, walkAt, Walk, listing, Step, listed, settled, skipped, stepFrom, walk}
+use Rattle.wal.specs.Walk.{Stop, refuse, list, move, moveAt, walkAt, Walk, listing, Step, listed, settled, skipped, stepFrom, walk}
 use Rattle.wal.specs.Answers.{walkedOf}
 use Rattle.wal.proofs.Walks.{Listed, list-listed, afterStep, walk-step}
-use Rattle.wal.proofs.Steps.{settled-lists, step-ahead}
+use Rattle.wal.proofs.Steps.{step-ahead, step-way}
 use Rattle.wal.proofs.Prefixes.{go-same, step-same}
 use Rattle.committee.specs.Committee.{committeeCheck}
 use Rattle.replay.specs.Items.{Read}
@@ -45,19 +45,14 @@ module _ (k : ℕ) (low : 6 ≤ k) (s : List ℕ) (used : ℕ) (image : used ≤
 
   step-refuses : (e : ℕ) → stepFrom k s used e ≡ listed a → stepFrom k t used e ≡ walks.Step.refused 7 (a .start)
   unfolding stepFrom skipped settled
-  step-refuses e is = from (moveAt k s used e e) refl is
-    where
-      from : (m : Move) → moveAt k s used e e ≡ m → skipped k s used e m ≡ listed a → stepFrom k t used e ≡ walks.Step.refused 7 (a .start)
-      from (stop w) first h = absurd (let z : _≡_ {A = ℕ} 0 1 = cc in omega arith)
-      from (refuse n p) first h = absurd (let z : _≡_ {A = ℕ} 0 1 = cc in omega arith)
-      from (list b) first h =
-          let this : b ≡ a = cc in
-          rw (move-refuses e e (first ∙ ap list this))
-      from (go q) first h =
-          let lists : moveAt k s used e q ≡ list a = settled-lists (moveAt k s used e q) h in
-          let l : Listed k s used q a = list-listed k s used e q lists in
-          let within : a .start + 16 ≤ used = omega (arith, l .start, l .in-used, l .length-least) in
-          rw (go-same k s used t used (a .start + 16) within same e first (omega (arith, l .start)), move-refuses e q lists)
+  step-refuses e is =
+      elim (step-way k s used e a is) [
+        | inl here ↦ rw (move-refuses e e here)
+        | inr on ↦
+            let l : Listed k s used (on .0) a = list-listed k s used e (on .0) (on .2) in
+            let within : a .start + 16 ≤ used = omega (arith, l .start, l .in-used, l .length-least) in
+            rw (go-same k s used t used (a .start + 16) within same e (on .1) (omega (arith, l .start)), move-refuses e (on .0) (on .2))
+      ]
 
   -- what the walk from e comes to, which lists the entries `before` and then a
   record Reaches (before : List Entry) (e : ℕ) : Type 0 where

@@ -1,10 +1,22 @@
-//! Which damage an entry's checksum shows and which it does not: the statement and the examples of `crates/burst`, on the archive.
-use kadzhomir::{Log, Refusal, RefusedAt, WalPosition};
+//! Which damage is detected and which is not (docs/OPERATING.md): the statement and the examples of `crates/burst`, on the archive.
+use kadzhomir::{Log, Refusal, RefusedAt, Stop, WalPosition, Walked};
+
+fn log_of(k: u64, entries: &[(u32, &[u8])]) -> Log<Vec<u8>> {
+    let mut log = Log::new(k, vec![0; 128], 0);
+    for (tag, payload) in entries {
+        log.append(*tag, payload).unwrap();
+    }
+    log
+}
+
+/// The first log of the specification: entries at 0, 25 and 64.
+fn first_log() -> Log<Vec<u8>> {
+    log_of(6, &[(2, b"123456789"), (4, b""), (2, b"123456789")])
+}
 
 /// What a read gives of an entry of tag 2, alone in a log, once `damage` has changed the log's bytes: the tag and the payload.
-fn read_after(payload: &[u8], damage: impl Fn(&mut [u8])) -> Result<(u32, Vec<u8>), Refusal> {
-    let mut log = Log::new(6, vec![0; 64], 0);
-    log.append(2, payload)?;
+fn read_after(k: u64, payload: &[u8], damage: impl FnOnce(&mut [u8])) -> Result<(u32, Vec<u8>), Refusal> {
+    let mut log = log_of(k, &[(2, payload)]);
     damage(log.image_mut());
     let entry = log.read(WalPosition(0))?;
     Ok((entry.tag, log.image()[entry.payload()].to_vec()))
@@ -12,25 +24,31 @@ fn read_after(payload: &[u8], damage: impl Fn(&mut [u8])) -> Result<(u32, Vec<u8
 
 /// The same where `bytes` are written from `at` on.
 fn read_with(payload: &[u8], at: usize, bytes: &[u8]) -> Result<(u32, Vec<u8>), Refusal> {
-    read_after(payload, |image| image[at..at + bytes.len()].copy_from_slice(bytes))
+    read_after(6, payload, |image| image[at..at + bytes.len()].copy_from_slice(bytes))
+}
+
+fn starts(log: &Log<Vec<u8>>) -> Vec<u64> {
+    log.entries().map_while(Result::ok).map(|e| e.position.0).collect()
 }
 
 #[test]
-fn four_damaged_bytes_are_found() {
+fn four_damaged_bytes_are_detected() {
     // Each bit of the run alone, then changes of several bytes; little-endian, the run's first byte lowest.
     let patterns: Vec<u32> = (0..32).map(|bit| 1 << bit).chain([0xffff_ffff, 0x8000_0001, 0xedb8_8320, 0x0101_0101]).collect();
-    for len in 1..=48 {
+    for (k, len) in (0..=48).map(|len| (6, len)).chain([(28, 100)]) {
         let payload: Vec<u8> = (0..len as u8).collect();
+        // The run may begin before the payload and end behind it; only the payload is changed.
         for run in 16 - 3..16 + len {
             for pattern in &patterns {
-                let in_payload = |i: &usize| (16..16 + len).contains(i);
-                let changes: Vec<(usize, u8)> = (run..).zip(pattern.to_le_bytes()).filter(|(i, bits)| in_payload(i) && *bits != 0).collect();
-                let found = read_after(&payload, |image| changes.iter().for_each(|(i, bits)| image[*i] ^= bits));
-                if changes.is_empty() {
-                    assert_eq!(found, Ok((2, payload.clone())));
-                } else {
-                    assert_eq!(found, Err(Refusal::Checksum), "length {len}, run at {run}, {pattern:08x}");
-                }
+                let mut changes: Vec<(usize, u8)> = (run..).zip(pattern.to_le_bytes()).collect();
+                changes.retain(|&(i, bits)| (16..16 + len).contains(&i) && bits != 0);
+                let answer = read_after(k, &payload, |image| {
+                    for &(i, bits) in &changes {
+                        image[i] ^= bits;
+                    }
+                });
+                let expected = if changes.is_empty() { Ok((2, payload.clone())) } else { Err(Refusal::Checksum) };
+                assert_eq!(answer, expected, "k {k}, length {len}, run at {run}, {pattern:08x}");
             }
         }
     }
@@ -38,15 +56,11 @@ fn four_damaged_bytes_are_found() {
 
 #[test]
 fn walk_and_recovery_are_refused_at_the_damaged_entry() {
-    let mut log = Log::new(6, vec![0; 128], 0);
-    for payload in [&b"first"[..], b"", b"second", b"third"] {
-        log.append(4, payload).unwrap();
-    }
-    let starts: Vec<u64> = log.entries().map(|e| e.unwrap().position.0).collect();
-    assert_eq!(starts, [0, 21, 37, 64]);
+    let mut log = log_of(6, &[(4, b"first"), (4, b""), (4, b"second"), (4, b"third")]);
+    assert_eq!(starts(&log), [0, 21, 37, 64]);
     log.image_mut()[37 + 16 + 2..37 + 16 + 6].fill(b'?');
     let refused = RefusedAt { refusal: Refusal::Checksum, start: WalPosition(37) };
-    assert_eq!(log.entries().map_while(|e| e.ok()).map(|e| e.position.0).collect::<Vec<_>>(), [0, 21]);
+    assert_eq!(starts(&log), [0, 21]);
     assert_eq!(log.walk(), Err(refused));
     assert_eq!(log.recover(4, 0).unwrap_err(), refused);
     // What stands behind it can still be read.
@@ -59,7 +73,7 @@ fn walk_and_recovery_are_refused_at_the_damaged_entry() {
 }
 
 #[test]
-fn what_the_checksum_does_not_show() {
+fn what_the_checksum_does_not_detect() {
     let changed = [0x70, 0x34, 0x42, 0xef, 0x34];
     // Five bytes may pass; four of them do not, nor the fifth.
     assert_eq!(read_with(b"123456789", 16, &changed), Ok((2, [&changed[..], b"6789"].concat())));
@@ -68,4 +82,36 @@ fn what_the_checksum_does_not_show() {
     // The tag and the length are not covered: one bit of the length, 20 to 16, leaves an empty payload.
     assert_eq!(read_with(b"123456789", 12, &[3]), Ok((3, b"123456789".to_vec())));
     assert_eq!(read_with(&[0x9d, 0x0a, 0xd9, 0x6d], 8, &[16]), Ok((2, vec![])));
+    // A payload and its checksum, changed so that they agree.
+    let other = log_of(6, &[(2, b"2")]);
+    assert_eq!(read_with(b"1", 0, &other.image()[..17]), Ok((2, b"2".to_vec())));
+    assert_eq!(read_with(b"1", 16, b"2"), Err(Refusal::Checksum));
+}
+
+#[test]
+fn a_payload_that_becomes_a_state() {
+    let mut log = log_of(6, &[(2, b"123456789")]);
+    assert_eq!(log.recover(4, 0).unwrap_err().refusal, Refusal::Payload);
+    log.image_mut()[12] = 4;
+    assert_eq!(log.recover(4, 0).unwrap().state(), Some(16..25));
+}
+
+#[test]
+fn headers_that_hide_entries() {
+    // The length of the empty entry at 25, one bit changed: it is passed over as padding, and the walk ends well.
+    let mut log = first_log();
+    log.image_mut()[25 + 8] = 0;
+    assert_eq!(starts(&log), [0, 64]);
+    assert_eq!(log.walk(), Ok(Walked { stop: Stop::End, end: WalPosition(89), unread: 0 }));
+    assert_eq!(log.read(WalPosition(25)), Err(Refusal::NoEntry));
+    // A length that reaches past the log's end, within its region.
+    let mut log = first_log();
+    log.image_mut()[64 + 8] = 26;
+    assert_eq!(log.walk(), Ok(Walked { stop: Stop::Torn, end: WalPosition(41), unread: 48 }));
+    assert_eq!(log.read(WalPosition(64)), Err(Refusal::PastUsed));
+    // Length and checksum zero at a region's start.
+    let mut log = first_log();
+    log.image_mut()[64..64 + 12].fill(0);
+    assert_eq!(log.walk(), Ok(Walked { stop: Stop::Zeros, end: WalPosition(41), unread: 48 }));
+    assert_eq!(log.read(WalPosition(64)), Err(Refusal::NoEntry));
 }

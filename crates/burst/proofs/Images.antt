@@ -6,14 +6,14 @@ use mathlib.Core.List.{List, _++_}
 use mathlib.Core.Logic.{inl, inr}
 use native.Mathlib.Omega.{arith}
 use lib.ListN.{length, take, getD, length-take}
-use lib.Seq.{ext-getD, getD-take, getD-drop, drop-at, take-length, length-take-le}
+use lib.Seq.{ext-getD, getD-take}
 use Rattle.laws.specs.Bytes.{AllBytes, bytesAt, written}
 use Rattle.laws.proofs.Tests.{leb-cases, eqb-cases}
-use Rattle.laws.proofs.Written.{length-written, take-written, take-end-written, drop-written, length-bytesAt, bytesAt-add, bytesAt-take, getD-bytesAt}
+use Rattle.laws.proofs.Written.{length-written, getD-before, getD-behind, length-bytesAt, bytesAt-add, bytesAt-written, getD-bytesAt}
 use Rattle.laws.proofs.AllBytes.{bytes-part}
 use Rattle.checksum.specs.Crc32.{crc32}
 use Rattle.burst.specs.Burst.{DiffersAt, Burst}
-use Rattle.burst.proofs.OneToOne.{crc-one}
+use Rattle.burst.proofs.Injective.{crc-injective}
 
 -- ---- Bytes that are the same
 
@@ -29,8 +29,8 @@ module _ (s t : List ℕ) (e : length s ≡ length t) where
       let short : i < n = omega (arith, length-take n s) in
       getD-take n s i 0 short ∙ same-at s t i (λ d. omega (arith, out i d)) ∙ sym (getD-take n t i 0 short))
 
-  part-same : (p n : ℕ) → p + n ≤ length s → ((i : ℕ) → DiffersAt s t i → p ≤ i → i < p + n → ⊥) → bytesAt s p n ≡ bytesAt t p n
-  part-same p n h out =
+  bytes-same : (p n : ℕ) → p + n ≤ length s → ((i : ℕ) → DiffersAt s t i → p ≤ i → i < p + n → ⊥) → bytesAt s p n ≡ bytesAt t p n
+  bytes-same p n h out =
       let ls : length (bytesAt s p n) ≡ n = length-bytesAt s p n h in
       let lt : length (bytesAt t p n) ≡ n = length-bytesAt t p n (omega arith) in
       ext-getD 0 (bytesAt s p n) (bytesAt t p n) (ls ∙ sym lt)
@@ -79,23 +79,23 @@ module _ (s t : List ℕ) (e : length s ≡ length t) (lo hi : ℕ) (inside : (i
       let w : List ℕ = bytesAt t lo (hi - lo) in
       let a : List ℕ = bytesAt s at (lo - at) in
       let b : List ℕ = bytesAt s hi (at + n - hi) in
-      let before : a ≡ bytesAt t at (lo - at) = part-same s t e at (lo - at) (omega arith) (λ i d f below. omega (arith, inside i d)) in
-      let behind : b ≡ bytesAt t hi (at + n - hi) = part-same s t e hi (at + n - hi) (omega arith) (λ i d f below. omega (arith, inside i d)) in
+      let before : a ≡ bytesAt t at (lo - at) = bytes-same s t e at (lo - at) (omega arith) (λ i d f below. omega (arith, inside i d)) in
+      let behind : b ≡ bytesAt t hi (at + n - hi) = bytes-same s t e hi (at + n - hi) (omega arith) (λ i d f below. omega (arith, inside i d)) in
       let was : bytesAt s at n ≡ a ++ (v ++ b) = three-parts s at n lo hi from up to in
       let is : bytesAt t at n ≡ a ++ (w ++ b) =
       three-parts t at n lo hi from up to ∙ ap₂ (λ (x y : List ℕ). x ++ (w ++ y)) (sym before) (sym behind) in
       let lv : length v ≡ hi - lo = length-bytesAt s lo (hi - lo) (omega arith) in
       let lw : length w ≡ hi - lo = length-bytesAt t lo (hi - lo) (omega arith) in
       all-same
-      (crc-one a v w b (lv ∙ sym lw) (omega arith) (bytes-part s lo (hi - lo) bs) (bytes-part t lo (hi - lo) bt)
+      (crc-injective a v w b (lv ∙ sym lw) (omega arith) (bytes-part s lo (hi - lo) bs) (bytes-part t lo (hi - lo) bt)
       (ap crc32 (sym was) ∙ sums ∙ ap crc32 is))
 
 -- ---- A burst of four bytes
 
 module _ (at n : ℕ) (s t : List ℕ) (h : Burst 4 at n s t) where
   -- the bytes before the payload are the same
-  pub before-payload : (m : ℕ) → m ≤ at → take m s ≡ take m t
-  before-payload m l = prefix-same s t (h .same-length) m (λ i d. omega (arith, h .in-payload i d))
+  pub before-payload : take at s ≡ take at t
+  before-payload = prefix-same s t (h .same-length) at (λ i d. h .in-payload i d .0)
 
   -- the run, as far as it lies in the payload
   lo : ℕ
@@ -114,36 +114,16 @@ module _ (at n : ℕ) (s t : List ℕ) (h : Burst 4 at n s t) where
 -- ---- A write is a burst
 
 module _ (s : List ℕ) (p : ℕ) (v : List ℕ) (fits : p + length v ≤ length s) where
-  same-before : (i : ℕ) → i < p → getD s i 0 ≡ getD (written s p v) i 0
-  same-before i h =
-      sym (getD-take p s i 0 h)
-      ∙ ap (λ (l : List ℕ). getD l i 0) (sym (take-written s p v p (omega arith) (omega arith)))
-      ∙ getD-take p (written s p v) i 0 h
-
-  same-behind : (i : ℕ) → p + length v ≤ i → getD s i 0 ≡ getD (written s p v) i 0
-  same-behind i h =
-      let j : ℕ = i - (p + length v) in
-      let there : p + length v + j ≡ i = omega arith in
-      ap (λ (n : ℕ). getD s n 0) (sym there)
-      ∙ sym (getD-drop (p + length v) s j 0)
-      ∙ ap (λ (l : List ℕ). getD l j 0) (sym (drop-written s p v (omega arith)))
-      ∙ getD-drop (p + length v) (written s p v) j 0
-      ∙ ap (λ (n : ℕ). getD (written s p v) n 0) there
-
   write-differs : (i : ℕ) → DiffersAt s (written s p v) i → (p ≤ i) × (i < p + length v)
   write-differs i d =
       elim (leb-cases p i) [
-        | inl from ↦ elim (leb-cases (p + length v) i) [ inl past ↦ absurd (d (same-behind i (past .1))) | inr to ↦ (from .1, to .1) ]
-        | inr before ↦ absurd (d (same-before i (before .1)))
+        | inl from ↦
+            elim (leb-cases (p + length v) i) [
+              | inl past ↦ absurd (d (sym (getD-behind s p v i (past .1) (omega arith))))
+              | inr to ↦ (from .1, to .1)
+            ]
+        | inr before ↦ absurd (d (sym (getD-before s p v i (before .1) (omega arith))))
       ]
-
-  written-there : bytesAt (written s p v) p (length v) ≡ v
-  unfolding bytesAt
-  written-there =
-      sym (bytesAt-take (written s p v) (p + length v) p (length v) (omega arith))
-      ∙ ap (λ (l : List ℕ). bytesAt l p (length v)) (take-end-written s p v (omega arith))
-      ∙ ap (take (length v)) (drop-at (take p s) v p (length-take-le p s (omega arith)))
-      ∙ take-length v
 
   pub write-burst : (width at n : ℕ) → length v ≤ width → at ≤ p → p + length v ≤ at + n → (bytesAt s p (length v) ≡ v → ⊥)
       → Burst width at n s (written s p v)
@@ -153,5 +133,5 @@ module _ (s : List ℕ) (p : ℕ) (v : List ℕ) (fits : p + length v ≤ length
         in-payload = λ i d. let w = write-differs i d in (omega arith, omega arith);
         first = p;
         in-run = λ i d. let w = write-differs i d in (omega arith, omega arith);
-        changed = λ e. other (ap (λ (l : List ℕ). bytesAt l p (length v)) e ∙ written-there);
+        changed = λ e. other (ap (λ (l : List ℕ). bytesAt l p (length v)) e ∙ bytesAt-written s p v (omega arith));
       }

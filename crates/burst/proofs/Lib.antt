@@ -1,4 +1,4 @@
-pub mod OneToOne
+pub mod Injective
 pub mod Images
 pub mod Reading
 pub mod Walking

@@ -22,7 +22,7 @@ use Rattle.wal.proofs.Prefixes.{checksum-same, length-same}
 use Rattle.burst.specs.Burst.{Burst, ReadDetects}
 use Rattle.burst.proofs.Images.{before-payload, crc-differs}
 
--- an entry that stands at p in the one image does not in the other
+-- where s has an entry at p, t has one that 7 refuses
 pub look-damaged : (k : ℕ) (s : List ℕ) → AllBytes s → (used p : ℕ) (a : Entry) → used ≤ length s → Listed k s used p a
     → (t : List ℕ) → AllBytes t → Burst 4 (p + 16) (length (a .payload)) s t → lookAt k t used p ≡ damaged 7
 unfolding payloadAt
@@ -30,7 +30,7 @@ look-damaged k s bs used p a image l t bt h =
     let least : 16 ≤ lengthAt s p = l .length-least in
     let long : length (a .payload) ≡ lengthAt s p - 16 = ap length (l .payload) ∙ length-payloadAt s p least (omega (arith, l .in-used)) in
     let header : take (p + 16) s ≡ take (p + 16) t =
-    before-payload (p + 16) (length (a .payload)) s t h (p + 16) (omega arith) in
+    before-payload (p + 16) (length (a .payload)) s t h in
     let len : lengthAt s p ≡ lengthAt t p = length-same s t (p + 16) header p (omega arith) in
     let sum : checksumAt s p ≡ checksumAt t p = checksum-same s t (p + 16) header p (omega arith) in
     let was : bytesAt s (p + 16) (length (a .payload)) ≡ a .payload = ap (bytesAt s (p + 16)) long ∙ sym (l .payload) in

@@ -17,7 +17,7 @@ use Rattle.wal.specs.Walk as walks
 use Rattle.wal.specs.Walk.{Stop, refuse, list, move, moveAt, walkAt, Walk, listing, Step, listed, settled, skipped, stepFrom, walk}
 use Rattle.wal.specs.Answers.{walkedOf}
 use Rattle.wal.proofs.Walks.{Listed, list-listed, afterStep, walk-step}
-use Rattle.wal.proofs.Steps.{step-ahead, step-way}
+use Rattle.wal.proofs.Steps.{step-ahead, here, behind, step-way}
 use Rattle.wal.proofs.Prefixes.{go-same, step-same}
 use Rattle.committee.specs.Committee.{committeeCheck}
 use Rattle.replay.specs.Items.{Read}
@@ -33,28 +33,28 @@ use Rattle.burst.proofs.Reading.{look-damaged}
 abbrev refusedWalk : List Entry → ℕ → ℕ → Walk
 refusedWalk entries n p = record { entries = entries; ending = walks.Ending.refused n p }
 
--- The image t has the bytes of s up to the payload of a, and no entry stands there.
+-- The image t has the bytes of s up to the payload of a, and 7 refuses it where s lists a.
 module _ (k : ℕ) (low : 6 ≤ k) (s : List ℕ) (used : ℕ) (image : used ≤ length s) (a : Entry) (t : List ℕ)
     (same : take (a .start + 16) s ≡ take (a .start + 16) t)
     (bad : (p : ℕ) → Listed k s used p a → lookAt k t used p ≡ damaged 7) where
-  move-refuses : (e p : ℕ) → moveAt k s used e p ≡ list a → moveAt k t used e p ≡ refuse 7 (a .start)
+  move-damaged : (e p : ℕ) → moveAt k s used e p ≡ list a → moveAt k t used e p ≡ refuse 7 (a .start)
   unfolding moveAt move
-  move-refuses e p is =
+  move-damaged e p is =
       let l : Listed k s used p a = list-listed k s used e p is in
       ap (move k used e p) (bad p l) ∙ ap (refuse 7) (sym (l .start))
 
-  step-refuses : (e : ℕ) → stepFrom k s used e ≡ listed a → stepFrom k t used e ≡ walks.Step.refused 7 (a .start)
+  step-damaged : (e : ℕ) → stepFrom k s used e ≡ listed a → stepFrom k t used e ≡ walks.Step.refused 7 (a .start)
   unfolding stepFrom skipped settled
-  step-refuses e is =
+  step-damaged e is =
       elim (step-way k s used e a is) [
-        | inl here ↦ rw (move-refuses e e here)
-        | inr on ↦
-            let l : Listed k s used (on .0) a = list-listed k s used e (on .0) (on .2) in
+        | here lists ↦ rw (move-damaged e e lists)
+        | behind {q = q} goes lists ↦
+            let l : Listed k s used q a = list-listed k s used e q lists in
             let within : a .start + 16 ≤ used = omega (arith, l .start, l .in-used, l .length-least) in
-            rw (go-same k s used t used (a .start + 16) within same e (on .1) (omega (arith, l .start)), move-refuses e (on .0) (on .2))
+            rw (go-same k s used t used (a .start + 16) within same e goes (omega (arith, l .start)), move-damaged e q lists)
       ]
 
-  -- what the walk from e comes to, which lists the entries `before` and then a
+  -- Where the walk of s from e lists `before` and then a: e is not past a, and the walk of t from e lists `before` and is refused at a.
   record Reaches (before : List Entry) (e : ℕ) : Type 0 where
     from : e ≤ a .start
     refuses : walkAt k t used e e ≡ refusedWalk before 7 (a .start)
@@ -78,7 +78,7 @@ module _ (k : ℕ) (low : 6 ≤ k) (s : List ℕ) (used : ℕ) (image : used ≤
       let first = first-step e a after is in
       record {
         from = step-ahead k s used image e a (first .0) .from;
-        refuses = walk-step k t used low e ∙ ap (afterStep k t used e) (step-refuses e (first .0));
+        refuses = walk-step k t used low e ∙ ap (afterStep k t used e) (step-damaged e (first .0));
       }
   reaches (b ∷ before) e after is =
       let first = first-step e b (before ++ a ∷ after) is in
@@ -97,10 +97,10 @@ module _ (k : ℕ) (low : 6 ≤ k) (s : List ℕ) (used : ℕ) (image : used ≤
       }
 
 -- the walk passes 1 and 2, since it lists an entry
-passed : (k : ℕ) (s : List ℕ) (used : ℕ) (before : List Entry) (a : Entry) (after : List Entry) → walk k s used .entries ≡ before ++ a ∷ after
+listed-sound : (k : ℕ) (s : List ℕ) (used : ℕ) (before : List Entry) (a : Entry) (after : List Entry) → walk k s used .entries ≡ before ++ a ∷ after
     → Sound k used (length s)
 unfolding walk
-passed k s used before a after is =
+listed-sound k s used before a after is =
     elim (eqb-cases (logCheck k used (length s)) 0) [
       | inl none ↦ passed-sound k used (length s) (none .1)
       | inr some ↦
@@ -111,14 +111,14 @@ passed k s used before a after is =
     ]
 
 -- the image after the burst passes them too, and its walk is refused at a
-walk-refused : (k : ℕ) (s : List ℕ) → AllBytes s → (used : ℕ) (before : List Entry) (a : Entry) (after : List Entry)
+walk-damaged : (k : ℕ) (s : List ℕ) → AllBytes s → (used : ℕ) (before : List Entry) (a : Entry) (after : List Entry)
     → walk k s used .entries ≡ before ++ a ∷ after
     → (t : List ℕ) → AllBytes t → Burst 4 (a .start + 16) (length (a .payload)) s t
     → Sound k used (length t) × (walk k t used ≡ refusedWalk before 7 (a .start))
-walk-refused k s bs used before a after is t bt h =
-    let sound : Sound k used (length s) = passed k s used before a after is in
+walk-damaged k s bs used before a after is t bt h =
+    let sound : Sound k used (length s) = listed-sound k s used before a after is in
     let sound-t : Sound k used (length t) = subst (Sound k used) (h .same-length) sound in
-    let header = before-payload (a .start + 16) (length (a .payload)) s t h (a .start + 16) (omega arith) in
+    let header = before-payload (a .start + 16) (length (a .payload)) s t h in
     let lists : walkAt k s used 0 0 .entries ≡ before ++ a ∷ after = ap (λ (w : Walk). w .entries) (sym (walk-is k s used sound)) ∙ is in
     let reached =
     reaches k (sound .low) s used (sound .within) a t header
@@ -176,7 +176,7 @@ module _ (before : List Entry) (n p size own : ℕ) (lent : Lent) where
 pub walk-detects : WalkDetects 4
 unfolding walkedOf
 walk-detects k s bs used before a after is t bt h =
-    let w = walk-refused k s bs used before a after is t bt h in
+    let w = walk-damaged k s bs used before a after is t bt h in
     record {
       walks = w .1;
       answers = ap (λ (x : Walk). walkedOf used (x .ending)) (w .1);

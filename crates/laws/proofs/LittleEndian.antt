@@ -1,5 +1,5 @@
 -- Laws of little-endian numbers, over the width. Assumes nothing.
-use mathlib.Core.Path.{_≡_, refl, sym, ap, _∙_}
+use mathlib.Core.Path.{_≡_, refl, sym, ap, ap₂, _∙_}
 use mathlib.Core.List.{List, [], _∷_, _++_}
 use Prim.Native.Nat.{ℕ, zero, suc, _+_, _*_, _/_, _%_, _^_, _≤_, _<_}
 use native.Mathlib.Nat.{pow-suc, pow-succ', mul-assoc, div-lt-iff-lt-mul, zero-add, suc-add, div-one, div-div-eq-div-mul}
@@ -9,7 +9,7 @@ use lib.Arith.{mod-mul}
 use lib.Dec.{lit<}
 use lib.ListN.{length, getD, set}
 use lib.Seq.{drop-cons, sets-eq}
-use Rattle.laws.specs.Bytes.{bytesAt, written, le, ofLe}
+use Rattle.laws.specs.Bytes.{AllBytes, bytesAt, written, le, ofLe}
 use Rattle.laws.proofs.Written.{bytesAt-add, length-bytesAt}
 
 pub length-le : (w x : ℕ) → length (le w x) ≡ w
@@ -24,6 +24,20 @@ ofLe-le zero x h = omega arith
 ofLe-le (suc w) x h =
     let small : x / 256 < 256 ^ w = div-lt-iff-lt-mul (lit< tt) .1 (rw pow-suc at h) in
     omega (arith, ofLe-le w (x / 256) small)
+
+-- bytes are those of the number that they make
+pub le-ofLe : (bytes : List ℕ) → AllBytes bytes → le (length bytes) (ofLe bytes) ≡ bytes
+unfolding le ofLe
+le-ofLe [] h = refl
+le-ofLe (b ∷ bytes) h =
+    let low : (b + 256 * ofLe bytes) % 256 ≡ b = omega (arith, h zero) in
+    let high : (b + 256 * ofLe bytes) / 256 ≡ ofLe bytes = omega (arith, h zero) in
+    ap₂ _∷_ low (ap (le (length bytes)) high ∙ le-ofLe bytes (λ i. h (suc i)))
+
+pub ofLe-small : (bytes : List ℕ) → AllBytes bytes → ofLe bytes < 256 ^ length bytes
+unfolding ofLe
+ofLe-small [] h = omega arith
+ofLe-small (b ∷ bytes) h = rw pow-suc (omega (arith, h zero, ofLe-small bytes (λ i. h (suc i))))
 
 -- a number in two parts
 pub ofLe-append : (a b : List ℕ) → ofLe (a ++ b) ≡ ofLe a + 256 ^ length a * ofLe b

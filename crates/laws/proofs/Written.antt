@@ -1,11 +1,11 @@
 -- Laws of `written`, `bytesAt` and `zeros`. Assumes nothing.
 use mathlib.Core.Path.{_≡_, refl, sym, ap, _∙_}
 use mathlib.Core.List.{List, [], _∷_, _++_, append-assoc, append-nil}
-use Prim.Native.Nat.{ℕ, zero, suc, _+_, _≤_, _<_}
+use Prim.Native.Nat.{ℕ, zero, suc, _+_, _-_, _≤_, _<_}
 use native.Mathlib.Nat.{add-zero, zero-add, add-assoc}
 use native.Mathlib.Omega.{arith}
 use lib.ListN.{length, take, drop, set, getD, length-append, length-take, length-drop, length-replicate, take-append-drop}
-use lib.Seq.{take-append-le, drop-append-add, take-at, drop-at, drop-drop, take-take, set-split, take-add, append-snoc, getD-take, getD-drop, drop-length}
+use lib.Seq.{take-append-le, drop-append-add, take-at, drop-at, drop-drop, take-take, set-split, take-add, append-snoc, getD-take, getD-drop, drop-length, take-length, length-take-le}
 use native.Mathlib.Numerals.{add-one}
 use Rattle.laws.specs.Bytes.{bytesAt, written, zeros}
 
@@ -55,6 +55,23 @@ pub drop-written : (s : List ℕ) (p : ℕ) (v : List ℕ) → p ≤ length s �
 unfolding written
 drop-written s p v h = drop-at (take p s ++ v) (drop (p + length v) s) (p + length v) (length-head s p v h)
 
+-- an element before the written part, and one behind it
+pub getD-before : (s : List ℕ) (p : ℕ) (v : List ℕ) (i : ℕ) → i < p → p ≤ length s → getD (written s p v) i 0 ≡ getD s i 0
+getD-before s p v i h k =
+    sym (getD-take p (written s p v) i 0 h)
+    ∙ ap (λ (l : List ℕ). getD l i 0) (take-written s p v p (omega arith) k)
+    ∙ getD-take p s i 0 h
+
+pub getD-behind : (s : List ℕ) (p : ℕ) (v : List ℕ) (i : ℕ) → p + length v ≤ i → p ≤ length s → getD (written s p v) i 0 ≡ getD s i 0
+getD-behind s p v i h k =
+    let j : ℕ = i - (p + length v) in
+    let there : p + length v + j ≡ i = omega arith in
+    ap (λ (n : ℕ). getD (written s p v) n 0) (sym there)
+    ∙ sym (getD-drop (p + length v) (written s p v) j 0)
+    ∙ ap (λ (l : List ℕ). getD l j 0) (drop-written s p v k)
+    ∙ getD-drop (p + length v) s j 0
+    ∙ ap (λ (n : ℕ). getD s n 0) there
+
 -- a store of one element
 pub written-one : (s : List ℕ) (p b : ℕ) → p < length s → set s p b ≡ written s p (b ∷ [])
 unfolding written
@@ -80,6 +97,15 @@ bytesAt-take [] zero (suc p) n h = refl
 bytesAt-take [] (suc c) (suc p) n h = refl
 bytesAt-take (x ∷ s) zero (suc p) n h = absurd (omega arith)
 bytesAt-take (x ∷ s) (suc c) (suc p) n h = bytesAt-take s c p n (omega arith)
+
+-- the written part
+pub bytesAt-written : (s : List ℕ) (p : ℕ) (v : List ℕ) → p ≤ length s → bytesAt (written s p v) p (length v) ≡ v
+unfolding bytesAt
+bytesAt-written s p v h =
+    sym (bytesAt-take (written s p v) (p + length v) p (length v) (omega arith))
+    ∙ ap (λ (l : List ℕ). bytesAt l p (length v)) (take-end-written s p v h)
+    ∙ ap (take (length v)) (drop-at (take p s) v p (length-take-le p s h))
+    ∙ take-length v
 
 pub getD-zeros : (n i : ℕ) → getD (zeros n) i 0 ≡ 0
 unfolding zeros

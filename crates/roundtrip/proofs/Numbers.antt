@@ -1,32 +1,16 @@
 -- The round trip of a number, over its width. Assumes nothing.
-use mathlib.Core.Path.{_≡_, refl, sym, ap, ap₂, _∙_}
-use mathlib.Core.List.{List, [], _∷_}
-use Prim.Native.Nat.{ℕ, zero, suc, _+_, _*_, _/_, _%_, _^_, _≤_, _<_}
-use native.Mathlib.Nat.{pow-suc}
+use mathlib.Core.Path.{_≡_, sym, ap, ap₂, _∙_}
+use Prim.Native.Nat.{ℕ, _+_, _≤_, _<_}
 use native.Mathlib.Omega.{arith}
 use lib.ListN.{length}
 use Rattle.laws.specs.Bytes.{bytesAt, le, ofLe, AllBytes}
 use Rattle.laws.specs.Parse.{got, number}
 use Rattle.laws.proofs.AllBytes.{bytes-part}
 use Rattle.laws.proofs.Written.{length-bytesAt}
-use Rattle.laws.proofs.LittleEndian.{length-le, ofLe-le}
+use Rattle.laws.proofs.LittleEndian.{length-le, ofLe-le, le-ofLe, ofLe-small}
 use Rattle.laws.proofs.Parses.{number-got, number-found}
 use Rattle.roundtrip.proofs.Inverse.{Inverse}
 use Rattle.roundtrip.specs.Valid.{Wide}
-
--- bytes are those of the number that they make
-pub le-ofLe : (bytes : List ℕ) → AllBytes bytes → le (length bytes) (ofLe bytes) ≡ bytes
-unfolding le ofLe
-le-ofLe [] h = refl
-le-ofLe (b ∷ bytes) h =
-    let low : (b + 256 * ofLe bytes) % 256 ≡ b = omega (arith, h zero) in
-    let high : (b + 256 * ofLe bytes) / 256 ≡ ofLe bytes = omega (arith, h zero) in
-    ap₂ _∷_ low (ap (le (length bytes)) high ∙ le-ofLe bytes (λ i. h (suc i)))
-
-pub ofLe-small : (bytes : List ℕ) → AllBytes bytes → ofLe bytes < 256 ^ length bytes
-unfolding ofLe
-ofLe-small [] h = omega arith
-ofLe-small (b ∷ bytes) h = rw pow-suc (omega (arith, h zero, ofLe-small bytes (λ i. h (suc i))))
 
 pub number-inverse : (w : ℕ) → 0 < w → Inverse (number w) (le w) (Wide w)
 number-inverse w some-bytes =

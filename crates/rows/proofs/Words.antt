@@ -5,11 +5,11 @@ use Prim.Native.Nat.{ℕ, zero, suc, _+_, _-_, _≤_, _<_}
 use native.Mathlib.Nat.{zero-add}
 use native.Mathlib.Omega.{arith}
 use lib.ListN.{length, take, drop, set, getD, length-append, length-set}
-use lib.Seq.{drop-cons, drop-at, getD-take, getD-drop, length-take-le, drop-paste}
+use lib.Seq.{drop-cons, drop-at, getD-drop, length-take-le, drop-paste}
 use Rattle.laws.specs.Bytes.{bytesAt, written}
 use Rattle.laws.proofs.Copying.{Copying}
 use Rattle.laws.proofs.Copying as copying
-use Rattle.laws.proofs.Written.{written-nothing, written-one, take-written, length-bytesAt, getD-bytesAt}
+use Rattle.laws.proofs.Written.{written-nothing, written-one, take-written, getD-before, length-bytesAt, getD-bytesAt}
 
 -- what is written in two steps, the second just before the first, is written at once
 pub written-before : (s : List ℕ) (p q : ℕ) (a b : List ℕ) → q ≤ length s → q ≡ p + length a
@@ -25,13 +25,6 @@ written-before s p q a b h e =
     ap (λ (l : List ℕ). l ++ a ++ drop (p + length a) (written s q b)) (take-written s q b p (omega arith) h)
     ∙ ap (λ (l : List ℕ). take p s ++ a ++ l) rest
     ∙ simp append-assoc
-
--- an element before the written part
-getD-before : (s : List ℕ) (q : ℕ) (v : List ℕ) (i : ℕ) → i < q → q ≤ length s → getD (written s q v) i 0 ≡ getD s i 0
-getD-before s q v i h k =
-    sym (getD-take q (written s q v) i 0 h)
-    ∙ ap (λ (l : List ℕ). getD l i 0) (take-written s q v q (omega arith) k)
-    ∙ getD-take q s i 0 h
 
 pub bytesAt-cons : (s : List ℕ) (p n : ℕ) → p < length s → bytesAt s p (suc n) ≡ getD s p 0 ∷ bytesAt s (suc p) n
 unfolding bytesAt

@@ -14,8 +14,7 @@ def show_read(k, image, used, p):
         print("read REFUSED %d" % r.number)
 
 
-def show_calls(k, image, used, payload, position):
-    show_read(k, image, used, position)
+def show_walk(k, image, used):
     try:
         steps = walk(k, image, used)
         while True:
@@ -26,6 +25,11 @@ def show_calls(k, image, used, payload, position):
                 break
     except Refused as r:
         print("walk REFUSED %d %d" % (r.number, r.start))
+
+
+def show_calls(k, image, used, payload, position):
+    show_read(k, image, used, position)
+    show_walk(k, image, used)
     try:
         print("append %d %d" % append(k, image, used, 2, payload))
     except Refused as r:
@@ -71,6 +75,19 @@ image = bytearray(128)
 used = log(image, FIRST)
 for p in [0, 25, 41, 49, 64, 80, 88, 89, 2**64 - 1]:
     show_read(6, image, used, p)
+
+# damaged payloads, then damaged headers
+for rows in (
+    [(0, {20: 0x34}), (0, dict(zip(range(16, 20), b"\x70\x34\x42\xef"))), (0, {20: ord("5")})],
+    [(0, {12: 3}), (25, {33: 0}), (64, {72: 26}), (64, {72: 0}), (64, dict.fromkeys(range(64, 68), 0))],
+):
+    image = bytearray(128)
+    used = log(image, FIRST)
+    for p, changes in rows:
+        for place, value in changes.items():
+            image[place] = value
+        show_read(6, image, used, p)
+        show_walk(6, image, used)
 
 # both logs at every cut
 for appends in (FIRST, SECOND):

@@ -5,8 +5,8 @@ use mathlib.Core.Path.{_≡_, sym, ap, ap₂, _∙_}
 use mathlib.Core.List.{List, _++_}
 use mathlib.Core.Logic.{inl, inr}
 use native.Mathlib.Omega.{arith}
-use lib.ListN.{length, take, getD, length-take}
-use lib.Seq.{ext-getD, getD-take}
+use lib.ListN.{length, take, drop, getD, length-take, length-drop}
+use lib.Seq.{ext-getD}
 use Rattle.laws.specs.Bytes.{AllBytes, bytesAt, written}
 use Rattle.laws.proofs.Tests.{leb-cases, eqb-cases}
 use Rattle.laws.proofs.Written.{length-written, getD-before, getD-behind, length-bytesAt, bytesAt-add, bytesAt-written, getD-bytesAt}
@@ -21,24 +21,15 @@ use Rattle.burst.proofs.Injective.{crc-injective}
 same-at : (s t : List ℕ) (i : ℕ) → (DiffersAt s t i → ⊥) → getD s i 0 ≡ getD t i 0
 same-at s t i h = elim (eqb-cases (getD s i 0) (getD t i 0)) [ inl same ↦ same .1 | inr differ ↦ absurd (h (differ .1)) ]
 
-module _ (s t : List ℕ) (e : length s ≡ length t) where
-  prefix-same : (n : ℕ) → ((i : ℕ) → DiffersAt s t i → n ≤ i) → take n s ≡ take n t
-  prefix-same n out =
-      ext-getD 0 (take n s) (take n t) (simp length-take (omega arith))
-      (λ i below.
-      let short : i < n = omega (arith, length-take n s) in
-      getD-take n s i 0 short ∙ same-at s t i (λ d. omega (arith, out i d)) ∙ sym (getD-take n t i 0 short))
-
-  bytes-same : (p n : ℕ) → p + n ≤ length s → ((i : ℕ) → DiffersAt s t i → p ≤ i → i < p + n → ⊥) → bytesAt s p n ≡ bytesAt t p n
-  bytes-same p n h out =
-      let ls : length (bytesAt s p n) ≡ n = length-bytesAt s p n h in
-      let lt : length (bytesAt t p n) ≡ n = length-bytesAt t p n (omega arith) in
-      ext-getD 0 (bytesAt s p n) (bytesAt t p n) (ls ∙ sym lt)
-      (λ i below.
-      let short : i < n = omega arith in
-      getD-bytesAt s p n i short
-      ∙ same-at s t (p + i) (λ d. out (p + i) d (omega arith) (omega arith))
-      ∙ sym (getD-bytesAt t p n i short))
+bytes-same : (s t : List ℕ) → length s ≡ length t → (p n : ℕ) → ((i : ℕ) → DiffersAt s t i → p ≤ i → i < p + n → ⊥) → bytesAt s p n ≡ bytesAt t p n
+unfolding bytesAt
+bytes-same s t e p n out =
+    ext-getD 0 (bytesAt s p n) (bytesAt t p n) (simp (length-take, length-drop) (omega arith))
+    (λ i below.
+    let short : i < n = omega (arith, length-take n (drop p s)) in
+    getD-bytesAt s p n i short
+    ∙ same-at s t (p + i) (λ d. out (p + i) d (omega arith) (omega arith))
+    ∙ sym (getD-bytesAt t p n i short))
 
 three-parts : (x : List ℕ) (at n lo hi : ℕ) → at ≤ lo → lo ≤ hi → hi ≤ at + n
     → bytesAt x at n ≡ bytesAt x at (lo - at) ++ (bytesAt x lo (hi - lo) ++ bytesAt x hi (at + n - hi))
@@ -79,8 +70,8 @@ module _ (s t : List ℕ) (e : length s ≡ length t) (lo hi : ℕ) (inside : (i
       let w : List ℕ = bytesAt t lo (hi - lo) in
       let a : List ℕ = bytesAt s at (lo - at) in
       let b : List ℕ = bytesAt s hi (at + n - hi) in
-      let before : a ≡ bytesAt t at (lo - at) = bytes-same s t e at (lo - at) (omega arith) (λ i d f below. omega (arith, inside i d)) in
-      let behind : b ≡ bytesAt t hi (at + n - hi) = bytes-same s t e hi (at + n - hi) (omega arith) (λ i d f below. omega (arith, inside i d)) in
+      let before : a ≡ bytesAt t at (lo - at) = bytes-same s t e at (lo - at) (λ i d f below. omega (arith, inside i d)) in
+      let behind : b ≡ bytesAt t hi (at + n - hi) = bytes-same s t e hi (at + n - hi) (λ i d f below. omega (arith, inside i d)) in
       let was : bytesAt s at n ≡ a ++ (v ++ b) = three-parts s at n lo hi from up to in
       let is : bytesAt t at n ≡ a ++ (w ++ b) =
       three-parts t at n lo hi from up to ∙ ap₂ (λ (x y : List ℕ). x ++ (w ++ y)) (sym before) (sym behind) in
@@ -95,7 +86,8 @@ module _ (s t : List ℕ) (e : length s ≡ length t) (lo hi : ℕ) (inside : (i
 module _ (at n : ℕ) (s t : List ℕ) (h : Burst 4 at n s t) where
   -- the bytes before the payload are the same
   pub before-payload : take at s ≡ take at t
-  before-payload = prefix-same s t (h .same-length) at (λ i d. h .in-payload i d .0)
+  unfolding bytesAt
+  before-payload = bytes-same s t (h .same-length) 0 at (λ i d f below. omega (arith, h .in-payload i d))
 
   -- the run, as far as it lies in the payload
   lo : ℕ

@@ -1,6 +1,6 @@
 -- A walk and a recovery of an image after a burst of four bytes in a payload: they come to that entry as before, and are refused there with 7.
 -- Assumes nothing.
-use Prim.Native.Nat.{ℕ, zero, suc, _+_, _≤_}
+use Prim.Native.Nat.{ℕ, _+_, _≤_}
 use mathlib.Core.Path.{_≡_, refl, sym, ap, _∙_, subst}
 use mathlib.Core.List.{List, [], _∷_, _++_}
 use mathlib.Core.Logic.{inl, inr}
@@ -21,7 +21,8 @@ use Rattle.wal.proofs.Steps.{step-ahead, here, behind, step-way}
 use Rattle.wal.proofs.Prefixes.{go-same, step-same}
 use Rattle.committee.specs.Committee.{committeeCheck}
 use Rattle.replay.specs.Items.{Read}
-use Rattle.replay.specs.Recovery.{Lent, Scanned, Recovery, scan, scanned, refusedAt, replayed, recover, refused, recovered}
+use Rattle.replay.specs.Recovery.{Lent, Recovery, scan, scanned, replayed, recover, refused, recovered}
+use Rattle.replay_log.proofs.Accepted.{replay-scanned, unless-recovered}
 use Rattle.cut.proofs.Recovering.{walk-is, recover-is}
 use Rattle.burst.specs.Burst.{Burst, WalkDetects}
 use Rattle.burst.proofs.Images.{before-payload}
@@ -127,59 +128,40 @@ walk-damaged k s bs used before a after is t bt h =
 
 -- ---- Recovery
 
-abbrev Refuses : Recovery → Type 0
-Refuses (refused n p) = Unit {0}
-Refuses (recovered w e l) = ⊥
+-- of an image whose walk is refused at p with n, behind the entries `before`
+module _ (k : ℕ) (t : List ℕ) (used : ℕ) (sound : Sound k used (length t)) (before : List Entry) (n p : ℕ)
+    (is : walk k t used ≡ refusedWalk before n p) (size own : ℕ) (lent : Lent) where
+  replays : Recovery
+  replays = replayed size own lent (refusedWalk before n p)
 
-unless-refuses : (n : ℕ) (x : Recovery) → Refuses x → Refuses (unless n (λ m. refused m 0) x)
-unfolding unless
-unless-refuses zero x h = h
-unless-refuses (suc n) x h = tt
+  recovery : recover k t used size own lent ≡ unless (committeeCheck size own) (λ m. refused m 0) replays
+  unfolding replays
+  recovery =
+      recover-is k t used sound size own lent
+      ∙ ap (λ (w : Walk). unless (committeeCheck size own) (λ m. refused m 0) (replayed size own lent w)) is
 
--- the replay of a walk that is refused at p with n, behind the entries `before`
-module _ (before : List Entry) (n p size own : ℕ) (lent : Lent) where
-  replay-passed : (l : List Read) → scan size own lent [] before ≡ scanned l → replayed size own lent (refusedWalk before n p) ≡ refused n p
-  unfolding replayed
-  replay-passed l passes = rw passes
+  recovery-passed : (l : List Read) → committeeCheck size own ≡ 0 → scan size own lent [] before ≡ scanned l → recover k t used size own lent ≡ refused n p
+  unfolding replays replayed
+  recovery-passed l committee passes = recovery ∙ unless-passed (λ m. refused m 0) replays (committeeCheck size own) committee ∙ rw passes
 
-  replay-earlier : (m q : ℕ) → scan size own lent [] before ≡ refusedAt m q → replayed size own lent (refusedWalk before n p) ≡ refused m q
-  unfolding replayed
-  replay-earlier m q refuses = rw refuses
-
-  replay-refuses : Refuses (replayed size own lent (refusedWalk before n p))
-  replay-refuses = from (scan size own lent [] before) refl
-    where
-      from : (x : Scanned) → scan size own lent [] before ≡ x → Refuses (replayed size own lent (refusedWalk before n p))
-      from (scanned l) is = subst Refuses (sym (replay-passed l is)) tt
-      from (refusedAt m q) is = subst Refuses (sym (replay-earlier m q is)) tt
-
-  -- and the recovery of the image
-  module _ (k : ℕ) (t : List ℕ) (used : ℕ) (sound : Sound k used (length t)) (is : walk k t used ≡ refusedWalk before n p) where
-    recovery : recover k t used size own lent ≡ unless (committeeCheck size own) (λ m. refused m 0) (replayed size own lent (refusedWalk before n p))
-    recovery =
-        recover-is k t used sound size own lent
-        ∙ ap (λ (w : Walk). unless (committeeCheck size own) (λ m. refused m 0) (replayed size own lent w)) is
-
-    recovery-passed : (l : List Read) → committeeCheck size own ≡ 0 → scan size own lent [] before ≡ scanned l → recover k t used size own lent ≡ refused n p
-    recovery-passed l committee passes =
-        recovery
-        ∙ unless-passed (λ m. refused m 0) (replayed size own lent (refusedWalk before n p)) (committeeCheck size own) committee
-        ∙ replay-passed l passes
-
-    recovery-never : (word : Stop) (end : ℕ) (l : List Read) → recover k t used size own lent ≡ recovered word end l → ⊥
-    recovery-never word end l accepted =
-        subst Refuses (sym recovery ∙ accepted)
-        (unless-refuses (committeeCheck size own) (replayed size own lent (refusedWalk before n p)) replay-refuses)
+  recovery-never : (word : Stop) (end : ℕ) (l : List Read) → recover k t used size own lent ≡ recovered word end l → ⊥
+  unfolding replays
+  recovery-never word end l accepted =
+      let replay = unless-recovered (committeeCheck size own) replays (sym recovery ∙ accepted) .1 in
+      let ends = replay-scanned size own lent (refusedWalk before n p) replay .ends in
+      let z : _≡_ {A = ℕ} 0 1 = cc in
+      omega arith
 
 -- ---- Both
 
 pub walk-detects : WalkDetects 4
-unfolding walkedOf
+unfolding walkedOf replays
 walk-detects k s bs used before a after is t bt h =
     let w = walk-damaged k s bs used before a after is t bt h in
     record {
       walks = w .1;
       answers = ap (λ (x : Walk). walkedOf used (x .ending)) (w .1);
-      recovers = λ size own lent. recovery-passed before 7 (a .start) size own lent k t used (w .0) (w .1);
-      never = λ size own lent. recovery-never before 7 (a .start) size own lent k t used (w .0) (w .1);
+      recovers = recovery k t used (w .0) before 7 (a .start) (w .1);
+      seven = recovery-passed k t used (w .0) before 7 (a .start) (w .1);
+      never = recovery-never k t used (w .0) before 7 (a .start) (w .1);
     }

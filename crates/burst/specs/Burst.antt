@@ -6,6 +6,7 @@ use mathlib.Core.List.{List, [], _∷_, _++_}
 use Prim.Native.Nat.{ℕ, _+_, _≤_, _<_}
 use lib.ListN.{length, getD}
 use Rattle.laws.specs.Bytes.{AllBytes}
+use Rattle.wal_position.specs.Checks.{unless}
 use Rattle.wal_reader.specs.Entries.{Entry}
 use Rattle.wal_reader.specs.Answers.{readAnswer}
 use Rattle.wal_reader.specs.declared.WalEntry.{WalEntry}
@@ -15,7 +16,7 @@ use Rattle.wal.specs.Answers.{walkAnswer}
 use Rattle.wal.specs.declared.Walked.the-variants.{Refused as Walked·Refused}
 use Rattle.committee.specs.Committee.{committeeCheck}
 use Rattle.replay.specs.Items.{Read}
-use Rattle.replay.specs.Recovery.{Lent, scan, scanned, recover, refused, recovered}
+use Rattle.replay.specs.Recovery.{Lent, scan, scanned, replayed, recover, refused, recovered}
 
 -- the byte at i, which is 0 past the end, is not the same in s and t
 abbrev pub DiffersAt : List ℕ → List ℕ → ℕ → Type 0
@@ -50,11 +51,15 @@ pub record Detected (k : ℕ) (t : List ℕ) (used : ℕ) (before : List Entry) 
   pub walks : walk k t used ≡ record { entries = before; ending = Ending.refused 7 (a .start) }
   -- what `wal::walk` answers
   pub answers : walkAnswer k t used ≡ Walked·Refused 7 (record { 0 = a .start })
-  -- Recovery is refused so too, where 18 does not refuse, nor an entry before: "then each entry in log order". `recovery::recover` answers by
-  -- `recover`, and leaves its tables all zero.
-  pub recovers : (size own : ℕ) (lent : Lent) (l : List Read) → committeeCheck size own ≡ 0 → scan size own lent [] before ≡ scanned l
+  -- Recovery gives what its checks give for the entries `before`, "in log order", and the walk's 7 behind them. `recovery::recover` answers by
+  -- `recover`, and a refused one leaves its tables all zero.
+  pub recovers : (size own : ℕ) (lent : Lent) → recover k t used size own lent
+      ≡ unless (committeeCheck size own) (λ n. refused n 0)
+      (replayed size own lent (record { entries = before; ending = Ending.refused 7 (a .start) }))
+  -- so 7 at a's start, where 18 does not refuse, nor an entry before
+  pub seven : (size own : ℕ) (lent : Lent) (l : List Read) → committeeCheck size own ≡ 0 → scan size own lent [] before ≡ scanned l
       → recover k t used size own lent ≡ refused 7 (a .start)
-  -- no recovery accepts t, whatever the committee and the tables
+  -- and no recovery accepts t, whatever the committee and the tables
   pub never : (size own : ℕ) (lent : Lent) (word : Stop) (end : ℕ) (l : List Read) → recover k t used size own lent ≡ recovered word end l → ⊥
 
 -- For every image whose walk lists the entry a, however that walk ends, and every burst in a's payload.

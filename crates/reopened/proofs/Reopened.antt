@@ -45,7 +45,8 @@ use Rattle.cut.specs.Cut.{Store, usedAfter, answerOf, next}
 use Rattle.cut.proofs.Growing.{walk-grows, grown-long}
 use Rattle.cut.proofs.Standing.{walk-stands}
 use Rattle.reopened.specs.Reopened.{Made, new, opens, appends, inserts, cleans, looks, lends, unloadedRow, Mirrors, Cause, Reopened, Refusals}
-use Rattle.reopened.proofs.Judging.{readOf, readsOf, read-judged, reads-one, Replayed, replay-scanned, replay-reads, unless-recovered}
+use Rattle.replay_log.proofs.Accepted.{Replayed, replay-scanned, unless-recovered}
+use Rattle.reopened.proofs.Judging.{readOf, readsOf, read-judged, reads-one, replay-reads}
 use Rattle.reopened.proofs.Rows.{cleaned-rows}
 use Rattle.reopened.proofs.Mirroring.{no-block-read, insert-holds, mirrors-block, mirrors-opened, mirrors-recovered}
 use Rattle.reopened.proofs.Refusing.{Fine, AllFine, number-checked, fine-other, fine-inserted, fine-one, scan-fine, recover-refused}

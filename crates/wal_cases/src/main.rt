@@ -1,5 +1,5 @@
-// Runs the small example of each row of the refusal table that the log's calls can give, and the two
-// logs of document 01 at every cut. The file `stdout` was made by tools/model/wal_cases.py, a model
+// Runs the small example of each row of the refusal table that the log's calls can give, damaged entries, and the
+// two logs of document 01 at every cut. The file `stdout` was made by tools/model/wal_cases.py, a model
 // written from document 01.
 ghost use Prim.Native.Nat.{_≤_};
 ghost use lib.ListN.{length};
@@ -166,6 +166,45 @@ fn reads() {
     read_rows(&image, used);
 }
 
+fn show_damaged(image: &[u8], used: u64, position: u64) {
+    show_found(wal::read(6, image, used, WalPosition(position)));
+    show_walked(wal::walk(6, image, used));
+}
+
+// The first log with its first payload changed: the fifth byte, the first five, and the first four. Five may pass (crates/burst).
+fn damaged_payloads() {
+    let mut image = [0u8; 128];
+    let used = first_log(&mut image);
+    image[20] = 0x34;
+    show_damaged(&image, used, 0);
+    image[16] = 0x70;
+    image[17] = 0x34;
+    image[18] = 0x42;
+    image[19] = 0xef;
+    show_damaged(&image, used, 0);
+    image[20] = b'5';
+    show_damaged(&image, used, 0);
+}
+
+// The same with what the checksum does not cover: a tag; a length of 0, and one past used; and the last header's length and checksum.
+fn damaged_headers() {
+    let mut image = [0u8; 128];
+    let used = first_log(&mut image);
+    image[12] = 3;
+    show_damaged(&image, used, 0);
+    image[33] = 0;
+    show_damaged(&image, used, 25);
+    image[72] = 26;
+    show_damaged(&image, used, 64);
+    image[72] = 0;
+    show_damaged(&image, used, 64);
+    image[64] = 0;
+    image[65] = 0;
+    image[66] = 0;
+    image[67] = 0;
+    show_damaged(&image, used, 64);
+}
+
 fn within(end: usize, text: &[u8]) -> usize
     ensures { λ r. ⌜ r ≤ length (now (text .entry)) ⌝ }
 {
@@ -237,6 +276,8 @@ fn main() {
     append_rows();
     header_rows();
     reads();
+    damaged_payloads();
+    damaged_headers();
     cuts();
     show_listing(b"");
     show_listing(&[0u8; 65537]);

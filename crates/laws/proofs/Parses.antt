@@ -1,7 +1,7 @@
 -- Laws of parsers by position. Assumes nothing.
 use mathlib.Core.Path.{_≡_, refl, sym, ap, _∙_}
 use mathlib.Core.Bool.{Bool, true, false}
-use mathlib.Core.List.{List, [], _∷_}
+use mathlib.Core.List.{List, [], _∷_, _++_, append-nil, append-assoc}
 use mathlib.Core.Logic.{inl, inr}
 use mathlib.Core.Option.{Option, none, some}
 use Prim.Native.Nat.{ℕ, zero, suc, _+_, _-_, _*_, _≤_, _<_}
@@ -9,10 +9,11 @@ use native.Mathlib.Nat.{mul-zero, mul-one, mul-suc, mul-add}
 use native.Mathlib.Numerals.{sub-one}
 use native.Mathlib.Omega.{arith}
 use borrow.Author.Tests.{le-leb, lt-leb}
-use lib.ListN.{length, getD}
+use lib.ListN.{length, take, getD}
+use lib.Seq.{take-suc}
 use Rattle.laws.specs.Pick.{pick}
 use Rattle.laws.specs.Bytes.{bytesAt, ofLe}
-use Rattle.laws.specs.Parse.{Res, bad, got, Parser, then, raw, number, many, answer}
+use Rattle.laws.specs.Parse.{Res, bad, got, Parser, then, raw, number, many, joined, answer}
 use Rattle.laws.proofs.Tests.{leb-cases}
 
 -- bytes and numbers
@@ -252,3 +253,18 @@ module _ {A : Type 0} {f : Parser A} {s : List ℕ} {n p left at : ℕ} (h : Pas
   done l =
       let none-left : left ≡ 0 = omega arith in
       end-got (many f n s p) (h .same ∙ ap (λ (k : ℕ). endOf (many f k s at)) none-left)
+
+-- elements in a row: the layouts of two lists, and of one element more
+
+module _ {A : Type 0} (f : A → List ℕ) where
+  pub joined-append : (a b : List A) → joined f (a ++ b) ≡ joined f a ++ joined f b
+  unfolding joined
+  joined-append [] b = refl
+  joined-append (x ∷ a) b = ap (λ (l : List ℕ). f x ++ l) (joined-append a b) ∙ sym (append-assoc (f x) (joined f a) (joined f b))
+
+  pub joined-next : (l : List A) (i : ℕ) (d : A) → i < length l → joined f (take (suc i) l) ≡ joined f (take i l) ++ f (getD l i d)
+  unfolding joined
+  joined-next l i d h =
+      ap (joined f) (take-suc l i d h)
+      ∙ joined-append (take i l) (getD l i d ∷ [])
+      ∙ ap (λ (r : List ℕ). joined f (take i l) ++ r) (append-nil (f (getD l i d)))

@@ -3,7 +3,6 @@
 // those decode, and a checksum over a 0 for each that does not and a 1 and the bytes encoded again
 // for each that does, and the values of some fields. `stdin` and `stdout` were made by tools/oracle with the Rust's own types and
 // bincode 1.3.3: the records, and what the Rust says of each.
-use bincode::Part;
 use commits::Commit;
 use encode::Encoded;
 use encode_blocks::BlockFields;
@@ -105,13 +104,6 @@ fn own_block_again(s: &[u8], out: &mut [u8]) -> Encoded {
     encode_commits::encode_own_block(out, 0, own.next_entry, part(block, 0, end))
 }
 
-fn payload_again(s: &[u8], out: &mut [u8]) -> Encoded {
-    let Part::Got(start, count, end) = commits::decode_payload(s, 0) else {
-        return Encoded::Malformed;
-    };
-    encode_blocks::encode_payload(out, 0, part(s, start, end), count as u64)
-}
-
 fn commit_again(s: &[u8], out: &mut [u8]) -> Encoded {
     let Commit::Got {
         commits,
@@ -166,7 +158,7 @@ fn again(kind: u8, s: &[u8], out: &mut [u8]) -> Encoded {
         return block_again(s, 0, out);
     }
     if kind == 6 {
-        return payload_again(s, out);
+        return payloads::payload_again(s, out);
     }
     if kind == 7 {
         return own_block_again(s, out);

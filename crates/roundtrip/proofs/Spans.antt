@@ -73,6 +73,10 @@ all {s} {v} h =
     let n : length v ≡ length s = omega (arith, h .end) in
     sym (h .these) ∙ ap (λ (k : ℕ). take k s) n ∙ take-length s
 
+pub itself : (s : List ℕ) → Spans s 0 s (length s)
+unfolding bytesAt
+itself s = record { end = omega arith; within = omega arith; these = take-length s }
+
 -- two parts are empty only where both are
 pub first : (a b : List ℕ) → 0 < length a → 0 < length (a ++ b)
 first a b h = omega (arith, length-append a b)

@@ -1,15 +1,16 @@
--- Laws of `decimal` and `hex8`. Assumes nothing.
+-- Laws of `decimal`, `hex8` and `hexBytes`. Assumes nothing.
 use mathlib.Core.Path.{_≡_, refl, sym, ap, _∙_}
-use mathlib.Core.List.{[], _∷_, _++_}
+use mathlib.Core.List.{List, [], _∷_, _++_}
 use Prim.Native.Nat.{ℕ, zero, suc, _+_, _-_, _*_, _/_, _%_, _^_, _≤_, _<_}
-use native.Mathlib.Nat.{not-suc-le-zero, lt-of-lt-of-le, pow-suc}
+use native.Mathlib.Nat.{not-suc-le-zero, lt-of-lt-of-le, pow-suc, div-one}
 use native.Mathlib.Numerals.{sub-one}
 use native.Mathlib.Omega.{arith}
 use native.Mathlib.Decide.{decLt}
 use borrow.Author.Tests.{lt-ltb, le-ltb}
 use lib.Dec.{lit≤}
 use lib.ListN.{length, length-append}
-use Rattle.text.specs.Digits.{digits, decimal, hexDigit, hexDigits, hex8}
+use Rattle.laws.specs.Parse.{joined}
+use Rattle.text.specs.Digits.{digits, decimal, hexDigit, hexDigits, hex8, hexBytes}
 
 -- The two equations of `digits`: a number below ten is one digit, whatever the fuel, and any other has one digit more than its tenth.
 digits-one : (f n : ℕ) → n < 10 → digits f n ≡ (48 + n) ∷ []
@@ -72,3 +73,13 @@ pub hexDigits-next : (k n : ℕ) → 0 < k → hexDigits k n ≡ hexDigit (n / 2
 unfolding hexDigits
 hexDigits-next zero n h = absurd (not-suc-le-zero h)
 hexDigits-next (suc k) n h = rw sub-one
+
+-- A byte's two digits, and the length of those of some bytes.
+pub hexDigits-two : (b : ℕ) → hexDigits 2 b ≡ hexDigit (b / 16 % 16) ∷ hexDigit (b % 16) ∷ []
+unfolding hexDigits
+hexDigits-two b = rw div-one
+
+pub length-hexBytes : (bytes : List ℕ) → length (hexBytes bytes) ≡ 2 * length bytes
+unfolding hexBytes joined hexDigits
+length-hexBytes [] = refl
+length-hexBytes (b ∷ bytes) = omega (arith, length-hexBytes bytes)

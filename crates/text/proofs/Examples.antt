@@ -3,8 +3,9 @@ use mathlib.Core.Path.{_≡_, refl}
 use mathlib.Core.List.{[], _∷_}
 use Prim.Native.Nat.{_-_, _^_}
 use lib.ListN.{drop}
+use Rattle.laws.specs.Parse.{joined}
 use Rattle.text.specs.Clipped.{clipped}
-use Rattle.text.specs.Digits.{digits, decimal, hexDigit, hexDigits, hex8}
+use Rattle.text.specs.Digits.{digits, decimal, hexDigit, hexDigits, hex8, hexBytes}
 
 -- "65535"
 decimal-65535 : decimal 65535 ≡ 54 ∷ 53 ∷ 53 ∷ 51 ∷ 53 ∷ []
@@ -25,6 +26,11 @@ decimal-0 = refl
 hex8-cbf43926 : hex8 0xcbf43926 ≡ 99 ∷ 98 ∷ 102 ∷ 52 ∷ 51 ∷ 57 ∷ 50 ∷ 54 ∷ []
 unfolding hex8 hexDigits hexDigit
 hex8-cbf43926 = refl
+
+-- "00af", two bytes
+hexBytes-00af : hexBytes (0 ∷ 0xaf ∷ []) ≡ 48 ∷ 48 ∷ 97 ∷ 102 ∷ []
+unfolding hexBytes joined hexDigits hexDigit
+hexBytes-00af = refl
 
 -- two of three bytes fit
 two-fit : clipped (1 ∷ 2 ∷ 3 ∷ []) 1 (7 ∷ 8 ∷ 9 ∷ []) ≡ 1 ∷ 7 ∷ 8 ∷ []

@@ -1,9 +1,13 @@
--- Text put byte after byte by a loop, and text put after text. Assumes nothing.
+-- Text put byte after byte or element after element by a loop, and text put after text. Assumes nothing.
 use mathlib.Core.Path.{_≡_, sym, ap, _∙_}
 use mathlib.Core.List.{List, [], _∷_, _++_}
-use Prim.Native.Nat.{ℕ, _+_}
+use Prim.Native.Nat.{ℕ, _+_, _≤_, _<_}
+use native.Mathlib.Numerals.{add-one}
 use native.Mathlib.Omega.{arith}
-use lib.ListN.{length, length-append}
+use lib.ListN.{length, take, getD, length-append}
+use lib.Seq.{take-all}
+use Rattle.laws.specs.Parse.{joined}
+use Rattle.laws.proofs.Parses.{joined-next}
 use Rattle.text.specs.Clipped.{clipped}
 use Rattle.text.specs.Put.{Put}
 use Rattle.text.proofs.Clipped.{length-clipped, clipped-nothing, then-clipped}
@@ -29,3 +33,18 @@ then-put {p} {q} {a = a} {b} {s} f g = record {
   next = rw length-append (omega (arith, f .next, g .next));
   bytes = g .bytes ∙ ap (λ (l : List ℕ). clipped l q b) (f .bytes) ∙ then-clipped s p q a b (f .next);
 }
+
+-- The buffer keeps its length, by what was put.
+pub put-length : {p q : ℕ} {v s t : List ℕ} → Put p v s t q → length t ≡ length s
+put-length {p} {v = v} {s} h = ap length (h .bytes) ∙ length-clipped s p v
+
+-- The invariant of a loop over elements: the text of the first i is put. A turn puts the text of the next.
+pub put-none : {p : ℕ} {s : List ℕ} → Put p [] s s p
+put-none {p} {s} = record { next = omega arith; bytes = sym (clipped-nothing s p) }
+
+module _ {A : Type 0} (f : A → List ℕ) (l : List A) (i : ℕ) {p q : ℕ} {s t : List ℕ} (h : Put p (joined f (take i l)) s t q) where
+  pub put-next : (d : A) {r : ℕ} {t′ : List ℕ} → i < length l → Put q (f (getD l i d)) t t′ r → Put p (joined f (take (i + 1) l)) s t′ r
+  put-next d k g = rw (add-one, joined-next f l i d k) (then-put h g)
+
+  pub put-all : length l ≤ i → Put p (joined f l) s t q
+  put-all k = rw (take-all i l k) at h

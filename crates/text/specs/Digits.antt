@@ -3,6 +3,7 @@ use Prim.Native.Nat.{ℕ, zero, suc, _+_, _*_, _/_, _%_, _^_}
 use mathlib.Core.Bool.{true, false, cond}
 use mathlib.Core.List.{List, [], _∷_, _++_}
 use lib.Dec.{ltb}
+use Rattle.laws.specs.Parse.{joined}
 
 -- n in base ten, by at most `fuel` divisions by ten. antt computes only the case of an `elim` that is taken, so the recursion ends where n is
 -- below ten, however large the fuel is.
@@ -26,3 +27,7 @@ hexDigits (suc k) n = hexDigit (n / 2 ^ (4 * k) % 16) ∷ hexDigits k n
 -- the low 32 bits of n as eight hexadecimal digits
 unfoldable pub hex8 : ℕ → List ℕ
 hex8 n = hexDigits 8 n
+
+-- each byte as two hexadecimal digits, in the order of the bytes
+unfoldable pub hexBytes : List ℕ → List ℕ
+hexBytes bytes = joined (hexDigits 2) bytes

@@ -3,8 +3,9 @@
 ghost use Prim.Native.Nat.{_+_, _<_, _%_, _^_};
 ghost use mathlib.Core.Path.{_≡_};
 ghost use mathlib.Core.List.{[], _∷_};
+ghost use lib.ListN.{length};
 ghost use Rattle.text.specs.Clipped.{clipped};
-ghost use Rattle.text.specs.Digits.{decimal, hexDigit, hex8};
+ghost use Rattle.text.specs.Digits.{decimal, hexDigit, hexDigits, hex8, hexBytes};
 ghost use Rattle.text.specs.Put.{Put};
 
 // Puts the byte b at index at.
@@ -55,6 +56,31 @@ pub fn put_hex8(out: &mut [u8], at: usize, n: u32) -> usize
         done += 1;
     }
     at + 8
+}
+
+// Puts b as two hexadecimal digits, at index at and the next.
+fn put_hex2(out: &mut [u8], at: usize, b: u8) -> usize
+    requires { ⌜ at < 2 ^ 63 ⌝ }
+    ensures { λ r. ⌜ Put at (hexDigits 2 b) (now (out .entry)) (now (out .exit)) r ⌝ }
+{
+    let n = b as u32;
+    store(out, at, hex_digit(n >> 4));
+    store(out, at + 1, hex_digit(n));
+    at + 2
+}
+
+// Puts each byte as two hexadecimal digits, from index at on.
+pub fn put_hex_bytes(out: &mut [u8], at: usize, bytes: &[u8]) -> usize
+    requires { ⌜ (at < 2 ^ 62) × (length (now bytes) < 2 ^ 60) ⌝ }
+    ensures { λ r. ⌜ Put at (hexBytes (now (bytes .entry))) (now (out .entry)) (now (out .exit)) r ⌝ }
+{
+    let mut next = at;
+    let mut i = 0;
+    while i < bytes.len() {
+        next = put_hex2(out, next, bytes[i]);
+        i += 1;
+    }
+    next
 }
 
 // Stores b at index at, unless the buffer ends before it.

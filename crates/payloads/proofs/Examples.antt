@@ -1,0 +1,30 @@
+-- The list's first payloads and their lines, by computation. Assumes nothing.
+use mathlib.Core.Path.{_≡_, refl}
+use mathlib.Core.List.{[], _∷_}
+use lib.ListN.{getD, take}
+use Rattle.laws.specs.Ascii.{ascii}
+use Rattle.laws.specs.Bytes.{le}
+use Rattle.laws.specs.Parse.{joined}
+use Rattle.bincode.specs.Bincode.{vecBytes, byteStringBytes}
+use Rattle.text.specs.Digits.{hexDigit, hexDigits, hexBytes}
+use Rattle.types.specs.Records.{statementBytes, payloadBytes}
+use Rattle.payloads.specs.Small.{numbersFrom, sharePayload, smallPayloads, payloadLine}
+
+-- no statement: a count of 0
+first : getD smallPayloads 0 [] ≡ 0 ∷ 0 ∷ 0 ∷ 0 ∷ 0 ∷ 0 ∷ 0 ∷ 0 ∷ []
+unfolding smallPayloads payloadBytes vecBytes joined le
+first = refl
+
+-- a count of 1, the variant 0 and a count of 1, and the byte 255
+last : getD smallPayloads 257 []
+    ≡ 1 ∷ 0 ∷ 0 ∷ 0 ∷ 0 ∷ 0 ∷ 0 ∷ 0 ∷ 0 ∷ 0 ∷ 0 ∷ 0 ∷ 1 ∷ 0 ∷ 0 ∷ 0 ∷ 0 ∷ 0 ∷ 0 ∷ 0 ∷ 255 ∷ []
+unfolding smallPayloads numbersFrom sharePayload payloadBytes vecBytes statementBytes byteStringBytes joined le
+last = refl
+
+first-line : take 16 (payloadLine (getD smallPayloads 0 [])) ≡ ascii "0000000000000000"
+unfolding smallPayloads payloadBytes vecBytes joined le payloadLine hexBytes hexDigits hexDigit ascii
+first-line = refl
+
+last-line : take 42 (payloadLine (getD smallPayloads 257 [])) ≡ ascii "0100000000000000000000000100000000000000ff"
+unfolding smallPayloads numbersFrom sharePayload payloadBytes vecBytes statementBytes byteStringBytes joined le payloadLine hexBytes hexDigits hexDigit ascii
+last-line = refl

@@ -1,16 +1,15 @@
 -- A payload decoded and encoded again. Assumes nothing.
 use mathlib.Core.Path.{_≡_, refl, sym, ap, _∙_}
-use mathlib.Core.List.{List, _++_}
+use mathlib.Core.List.{List}
 use mathlib.Core.Option.{none, some}
-use Prim.Native.Nat.{ℕ, _+_, _-_, _≤_}
+use Prim.Native.Nat.{ℕ, _-_, _≤_}
 use native.Mathlib.Nat.{zero-add}
 use native.Mathlib.Omega.{arith}
 use borrow.Author.Tests.{eq-eqb}
 use lib.ListN.{length, take, drop}
 use Rattle.laws.specs.Pick.{pick}
-use Rattle.laws.specs.Bytes.{bytesAt, written, AllBytes, le}
+use Rattle.laws.specs.Bytes.{bytesAt, AllBytes, le}
 use Rattle.laws.specs.Parse.{bad, got, answer, many, joined}
-use Rattle.laws.proofs.LittleEndian.{length-le}
 use Rattle.bincode.specs.Bincode.{vecBytes}
 use Rattle.types.specs.Records.{StatementValue, statement, statementBytes, payload, payloadBytes}
 use Rattle.roundtrip.proofs.Blocks.{statement-inverse, payload-inverse}
@@ -18,7 +17,7 @@ use Rattle.roundtrip.proofs.Spans.{right, between}
 use Rattle.roundtrip.proofs.Wholes.{list-whole}
 use Rattle.encode.proofs.Encodings.{fitted}
 use Rattle.encode_blocks.specs.Whole.{whole, laidOut}
-use Rattle.payloads.specs.Small.{SmallPayload, smallPayloads, encodedAgain}
+use Rattle.payloads.specs.Small.{SmallPayload, encodedAgain}
 use Rattle.payloads.specs.Request13.{EncodesToItself}
 use Rattle.payloads.proofs.Values.{decoded-bytes}
 

@@ -1,6 +1,6 @@
 -- Request 13: the list of small payloads is complete, ordered and without repeats, and each encodes to itself. Assumes nothing.
-use mathlib.Core.Path.{_≡_, refl, sym, subst}
-use mathlib.Core.List.{List, [], map}
+use mathlib.Core.Path.{_≡_, refl, subst}
+use mathlib.Core.List.{List, []}
 use Prim.Native.Nat.{ℕ, _<_}
 use lib.ListN.{length, getD}
 use Rattle.laws.proofs.Ascending.{ascending-of, ascending-at, ascending-unique}

@@ -1,7 +1,7 @@
 -- Which payloads are small: the list has them all and no others. Both go by the values that the parser gives, and not by the bytes.
 -- Assumes nothing.
 use mathlib.Core.Path.{_≡_, refl, sym, ap, subst, _∙_}
-use mathlib.Core.List.{List, [], _∷_, _++_, map, append-nil, List·Memᴰ, List·Memᴰ·head, List·Memᴰ·tail, List·Memᴰ·cases-cons, List·Memᴰ·not-nil}
+use mathlib.Core.List.{List, [], _∷_, _++_, map, append-nil, List·Memᴰ, List·Memᴰ·head, List·Memᴰ·tail, List·Memᴰ·cases-cons, List·Memᴰ·not-nil, Memᴰ·map, Memᴰ·of-map}
 use mathlib.Core.Logic.{⊎-elim}
 use Prim.Native.Nat.{ℕ, zero, suc, _+_, _≤_, _<_}
 use native.Mathlib.Nat.{zero-add, lt-of-le-of-lt}
@@ -16,7 +16,7 @@ use Rattle.laws.proofs.LittleEndian.{length-le}
 use Rattle.bincode.specs.Bincode.{vecBytes, byteStringBytes}
 use Rattle.types.specs.declared.TransactionLocator.{TransactionLocator}
 use Rattle.types.specs.declared.TransactionLocatorRange.{TransactionLocatorRange}
-use Rattle.types.specs.Records.{VoteValue, StatementValue, share, voteOn, voteRange, statementBytes, rangeBytes, payload, payloadBytes}
+use Rattle.types.specs.Records.{VoteValue, StatementValue, share, voteOn, voteRange, statementBytes, rangeBytes, payloadBytes}
 use Rattle.put_records.proofs.Lengths.{length-counted, length-digest, length-reference, length-locator, length-range}
 use Rattle.encode.proofs.Sizes.{share-size, vote-on-length}
 use Rattle.roundtrip.specs.Valid.{nil, more, ValidStatement, shares, ValidList}
@@ -27,7 +27,7 @@ use Rattle.payloads.specs.Small.{SmallPayload, numbersFrom, sharePayload
 
 -- ---- Sizes
 
-pub payload-size : (xs : List StatementValue) → length (payloadBytes xs) ≡ 8 + length (joined statementBytes xs)
+payload-size : (xs : List StatementValue) → length (payloadBytes xs) ≡ 8 + length (joined statementBytes xs)
 unfolding payloadBytes vecBytes
 payload-size xs = length-counted (length xs) (joined statementBytes xs)
 
@@ -63,10 +63,6 @@ statement-least (voteRange r) = omega (arith, vote-range-long r)
 
 -- ---- Complete
 
-in-map : {A B : Type 0} (f : A → B) {x : A} {l : List A} → List·Memᴰ x l → List·Memᴰ (f x) (map f l)
-in-map f {l = []} m = absurd (List·Memᴰ·not-nil m)
-in-map f {l = y ∷ l} m = ⊎-elim (λ e. List·Memᴰ·head (ap f e)) (λ n. List·Memᴰ·tail (in-map f n)) (List·Memᴰ·cases-cons m)
-
 in-numbers : (m n b : ℕ) → m ≤ b → b < m + n → List·Memᴰ b (numbersFrom m n)
 unfolding numbersFrom
 in-numbers m zero b h k = absurd (omega arith)
@@ -88,7 +84,7 @@ unfolding smallPayloads sharePayload
 value-listed [] bytes small = List·Memᴰ·head refl
 value-listed (share [] ∷ []) bytes small = List·Memᴰ·tail (List·Memᴰ·head refl)
 value-listed (share (b ∷ []) ∷ []) bytes small =
-    List·Memᴰ·tail (List·Memᴰ·tail (in-map (λ c. sharePayload (c ∷ [])) (in-numbers 0 256 b (omega arith) (last-byte b bytes))))
+    List·Memᴰ·tail (List·Memᴰ·tail (Memᴰ·map (λ c. sharePayload (c ∷ [])) (in-numbers 0 256 b (omega arith) (last-byte b bytes))))
 value-listed (share (a ∷ b ∷ rest) ∷ []) bytes small =
     absurd
     (omega (
@@ -157,14 +153,6 @@ below-numbers m zero h = absurd (List·Memᴰ·not-nil h)
 below-numbers m (suc n) h =
     ⊎-elim (λ e. omega (arith, e)) (λ k. omega (arith, below-numbers (suc m) n k)) (List·Memᴰ·cases-cons h)
 
-of-map : {A B : Type 0} (f : A → B) (l : List A) {y : B} → List·Memᴰ y (map f l) → (x : A) × List·Memᴰ x l × (y ≡ f x)
-of-map f [] m = absurd (List·Memᴰ·not-nil m)
-of-map f (x ∷ l) m =
-    ⊎-elim
-    (λ e. (x, List·Memᴰ·head refl, e))
-    (λ n. let r = of-map f l n in (r .0, List·Memᴰ·tail (r .1), r .2))
-    (List·Memᴰ·cases-cons m)
-
 pub sound : (s : List ℕ) → List·Memᴰ s smallPayloads → SmallPayload s
 unfolding smallPayloads
 sound s m =
@@ -174,7 +162,7 @@ sound s m =
     ⊎-elim
     (λ e. subst SmallPayload (sym e) (share-small [] (λ i. lit< tt) (lit≤ tt)))
     (λ k.
-    let r = of-map (λ b. sharePayload (b ∷ [])) (numbersFrom 0 256) k in
-    subst SmallPayload (sym (r .2)) (share-small (r .0 ∷ []) (one-byte (r .0) (below-numbers 0 256 (r .1))) (lit≤ tt)))
+    let r = Memᴰ·of-map (λ b. sharePayload (b ∷ [])) (numbersFrom 0 256) k in
+    subst SmallPayload (r .2) (share-small (r .0 ∷ []) (one-byte (r .0) (below-numbers 0 256 (r .1))) (lit≤ tt)))
     (List·Memᴰ·cases-cons n))
     (List·Memᴰ·cases-cons m)

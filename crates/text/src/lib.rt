@@ -71,7 +71,7 @@ fn put_hex2(out: &mut [u8], at: usize, b: u8) -> usize
 
 // Puts each byte as two hexadecimal digits, from index at on.
 pub fn put_hex_bytes(out: &mut [u8], at: usize, bytes: &[u8]) -> usize
-    requires { ⌜ (at < 2 ^ 62) × (length (now bytes) < 2 ^ 60) ⌝ }
+    requires { ⌜ (at < 2 ^ 61) × (length (now bytes) < 2 ^ 61) ⌝ }
     ensures { λ r. ⌜ Put at (hexBytes (now (bytes .entry))) (now (out .entry)) (now (out .exit)) r ⌝ }
 {
     let mut next = at;

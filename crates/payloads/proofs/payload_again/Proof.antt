@@ -2,7 +2,7 @@
 use borrow.Author.Needs.{needs}
 use mathlib.Core.Path.{_≡_}
 use mathlib.Core.List.{List}
-use Prim.Native.Nat.{ℕ, _+_, _≤_}
+use Prim.Native.Nat.{_+_, _≤_}
 use native.Mathlib.Omega.{arith}
 use lib.ListN.{length}
 use Rattle.laws.specs.Bytes.{AllBytes}
@@ -23,11 +23,16 @@ found c = part-got 0 _ (c .before .before .decode-payload .ensures) (c .start .g
 bytes : (c : tie.After-start) → AllBytes (c .before .before .before .before .before .args .s .now)
 bytes c i = omega (arith, c .before .before .before .before .shared-slice-known .given i)
 
+-- the statements lie within the bytes
 abbrev Within : tie.After-start → Type 0
-Within c = (8 ≤ c .start .given .0 .1 .1 .0) × (c .start .given .0 .1 .1 .0 ≤ length (c .before .before .before .before .before .args .s .now))
+Within c =
+    (c .start .given .0 .0 ≤ c .start .given .0 .1 .1 .0)
+    × (c .start .given .0 .1 .1 .0 ≤ length (c .before .before .before .before .before .args .s .now))
 
 within : (c : tie.After-start) → Within c
-within c = let w = statements-there _ (bytes c) (found c .1) in (w .0, w .1)
+within c =
+    let w = statements-there _ (bytes c) (found c .1) in
+    (omega (arith, found c .3, w .0), w .1)
 
 decode-payload-requires : tie.Need-decode-payload-requires
 decode-payload-requires c κs = search needs
@@ -45,10 +50,10 @@ returns c =
     (malformed (a .out .now) 0)
 
 sub-encode-payload : tie.Need-sub-encode-payload
-sub-encode-payload c = omega (arith, within (c .before .before) .0, found (c .before .before) .3)
+sub-encode-payload c = let w = within (c .before .before) in omega (arith, w .0, w .1)
 
 part-encode-payload-start : tie.Need-part-encode-payload-start
-part-encode-payload-start c = omega (arith, within (c .before .before) .0, found (c .before .before) .3)
+part-encode-payload-start c = let w = within (c .before .before) in omega (arith, w .0, w .1)
 
 part-encode-payload-end : tie.Need-part-encode-payload-end
 part-encode-payload-end c = omega (arith, within (c .before .before) .1)

@@ -43,8 +43,8 @@ unfolding answerAt encodedAt
 malformed out at = record { answers = refl; leaves = refl }
 
 -- what fits is written
-pub fitted : {out : List ℕ} {at : ℕ} {v : List ℕ} {r : Encoded} {after : List ℕ} → Encodes out at (some v) r after → at + length v ≤ length out
-    → (r ≡ End (at + length v)) × (after ≡ written out at v)
+pub fitted : {out : List ℕ} {at : ℕ} {v : List ℕ} {r : Encoded} {after : List ℕ} → Encodes out at (some v) r after
+    → at + length v ≤ length out → (r ≡ End (at + length v)) × (after ≡ written out at v)
 unfolding answerAt encodedAt pick
 fitted {out} {at} {v} h room =
     let fits = le-leb (at + length v) (length out) room in
@@ -67,9 +67,16 @@ at-start {out} {v} h room =
       bytes = rw (f .1) (take-append-seam v rest);
     }
 
+-- its bytes are those up to the end that was answered
 module _ {v : List ℕ} {r : Encoded} {after : List ℕ} {e : ℕ} (h : AtStart v r after) (g : r ≡ End e) where
-  pub end-at-start : e ≡ length v
+  end-at-start : e ≡ length v
   end-at-start = let same : End e ≡ End (length v) = sym g ∙ h .answer in cc
+
+  pub within-at-start : e ≤ length after
+  within-at-start = rw end-at-start (h .within)
 
   pub bytes-at-start : take e after ≡ v
   bytes-at-start = rw end-at-start (h .bytes)
+
+  pub length-at-start : e ≡ length (take e after)
+  length-at-start = end-at-start ∙ sym (ap length bytes-at-start)

@@ -8,7 +8,7 @@ use native.Mathlib.Omega.{arith}
 use lib.ListN.{length, getD}
 
 -- the element at an index is in the list
-pub getD-in : {A : Type 0} (s : List A) (i : ℕ) (d : A) → i < length s → List·Memᴰ (getD s i d) s
+getD-in : {A : Type 0} (s : List A) (i : ℕ) (d : A) → i < length s → List·Memᴰ (getD s i d) s
 getD-in [] i d h = absurd (not-suc-le-zero h)
 getD-in (x ∷ s) zero d h = List·Memᴰ·head refl
 getD-in (x ∷ s) (suc i) d h = List·Memᴰ·tail (getD-in s i d (le-of-suc-le-suc h))
@@ -33,7 +33,7 @@ module _ {A : Type 0} (Under : A → A → Type 0) where
 
   module _ (trans : (x y z : A) → Under x y → Under y z → Under x z) where
     -- all that stands behind an element is above it
-    pub behind-above : (x z : A) (s : List A) → LeadsBy x s → AscendingBy s → List·Memᴰ z s → Under x z
+    behind-above : (x z : A) (s : List A) → LeadsBy x s → AscendingBy s → List·Memᴰ z s → Under x z
     behind-above x z [] l a m = absurd (List·Memᴰ·not-nil m)
     behind-above x z (y ∷ s) l a m =
         ⊎-elim

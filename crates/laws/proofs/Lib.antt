@@ -2,6 +2,7 @@ pub mod Tests
 pub mod Written
 pub mod AllBytes
 pub mod Ascending
+pub mod Numbers
 pub mod LittleEndian
 pub mod Copying
 pub mod Parses

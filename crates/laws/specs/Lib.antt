@@ -1,4 +1,5 @@
 pub mod Pick
 pub mod Bytes
+pub mod Numbers
 pub mod Ascii
 pub mod Parse

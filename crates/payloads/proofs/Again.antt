@@ -14,7 +14,7 @@ use Rattle.bincode.specs.Bincode.{vecBytes}
 use Rattle.types.specs.Records.{StatementValue, statement, statementBytes, payload, payloadBytes}
 use Rattle.roundtrip.proofs.Blocks.{statement-inverse, payload-inverse}
 use Rattle.roundtrip.proofs.Spans.{right, between}
-use Rattle.roundtrip.proofs.Wholes.{list-whole}
+use Rattle.roundtrip.proofs.Wholes.{many-whole}
 use Rattle.encode.proofs.Encodings.{fitted}
 use Rattle.encode_blocks.specs.Whole.{whole, laidOut}
 use Rattle.payloads.specs.Small.{SmallPayload, encodedAgain}
@@ -28,7 +28,7 @@ unfolding encodedAgain answer
 none-again s h = rw h
 
 module _ (s : List ℕ) (bytes : AllBytes s) {xs : List StatementValue} {e : ℕ} (h : payload s 0 ≡ got xs e) where
-  pub again-is : encodedAgain s ≡ some (payloadBytes xs)
+  again-is : encodedAgain s ≡ some (payloadBytes xs)
   unfolding encodedAgain answer
   again-is = rw h
 
@@ -50,7 +50,7 @@ module _ (s : List ℕ) (bytes : AllBytes s) {xs : List StatementValue} {e : ℕ
         eight,
         ← counted,
         statements-there .2,
-        list-whole statement-inverse (payload-inverse .encoded bytes h .valid .each),
+        many-whole statement-inverse (payload-inverse .encoded bytes h .valid .each),
         eq-eqb n n refl,
       )
       (sym again-is)

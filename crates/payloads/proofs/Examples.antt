@@ -1,14 +1,15 @@
 -- The list's first payloads and their lines, by computation. Assumes nothing.
 use mathlib.Core.Path.{_≡_, refl}
-use mathlib.Core.List.{[], _∷_}
-use lib.ListN.{getD, take}
-use Rattle.laws.specs.Ascii.{ascii}
+use mathlib.Core.List.{[], _∷_, _++_}
+use lib.ListN.{getD}
+use Rattle.laws.specs.Ascii.{ascii, lineFeed}
 use Rattle.laws.specs.Bytes.{le}
+use Rattle.laws.specs.Numbers.{numbersFrom}
 use Rattle.laws.specs.Parse.{joined}
 use Rattle.bincode.specs.Bincode.{vecBytes, byteStringBytes}
 use Rattle.text.specs.Digits.{hexDigit, hexDigits, hexBytes}
 use Rattle.types.specs.Records.{statementBytes, payloadBytes}
-use Rattle.payloads.specs.Small.{numbersFrom, sharePayload, smallPayloads, payloadLine}
+use Rattle.payloads.specs.Small.{sharePayload, smallPayloads, payloadLine}
 
 -- no statement: a count of 0
 first : getD smallPayloads 0 [] ≡ 0 ∷ 0 ∷ 0 ∷ 0 ∷ 0 ∷ 0 ∷ 0 ∷ 0 ∷ []
@@ -21,10 +22,10 @@ last : getD smallPayloads 257 []
 unfolding smallPayloads numbersFrom sharePayload payloadBytes vecBytes statementBytes byteStringBytes joined le
 last = refl
 
-first-line : take 16 (payloadLine (getD smallPayloads 0 [])) ≡ ascii "0000000000000000"
+first-line : payloadLine (getD smallPayloads 0 []) ≡ ascii "0000000000000000" ++ (lineFeed ∷ [])
 unfolding smallPayloads payloadBytes vecBytes joined le payloadLine hexBytes hexDigits hexDigit ascii
 first-line = refl
 
-last-line : take 42 (payloadLine (getD smallPayloads 257 [])) ≡ ascii "0100000000000000000000000100000000000000ff"
+last-line : payloadLine (getD smallPayloads 257 []) ≡ ascii "0100000000000000000000000100000000000000ff" ++ (lineFeed ∷ [])
 unfolding smallPayloads numbersFrom sharePayload payloadBytes vecBytes statementBytes byteStringBytes joined le payloadLine hexBytes hexDigits hexDigit ascii
 last-line = refl

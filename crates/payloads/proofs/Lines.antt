@@ -1,33 +1,34 @@
 -- The elements of the list as they are made, one by one, and the length of the text. Assumes nothing.
 use mathlib.Core.Path.{_≡_, refl, sym, ap, _∙_}
 use mathlib.Core.Bool.{true}
-use mathlib.Core.List.{List, [], _∷_, _++_, map, append-nil}
-use Prim.Native.Nat.{ℕ, zero, suc, _+_, _≤_, _<_}
-use native.Mathlib.Nat.{add-zero, not-suc-le-zero, le-of-suc-le-suc}
+use mathlib.Core.List.{List, [], _∷_, _++_, append-nil}
+use Prim.Native.Nat.{ℕ, suc, _+_, _≤_, _<_}
+use native.Mathlib.Nat.{zero-add}
 use native.Mathlib.Omega.{arith}
 use borrow.Author.Tests.{eq-eqb}
 use lib.ListN.{length, take, drop, getD, length-append, take-append-drop, drop-of-length-le}
 use Rattle.laws.specs.Bytes.{le}
+use Rattle.laws.specs.Numbers.{numbersFrom}
 use Rattle.laws.specs.Parse.{answer, many, joined}
+use Rattle.laws.proofs.Numbers.{getD-numbers}
 use Rattle.laws.proofs.Parses.{joined-append}
 use Rattle.bincode.specs.Bincode.{vecBytes, byteStringBytes}
 use Rattle.text.specs.Clipped.{clipped}
 use Rattle.text.specs.Digits.{hexDigits, hexBytes}
-use Rattle.text.specs.Put.{Put}
 use Rattle.text.proofs.Clipped.{clipped-fits}
 use Rattle.types.specs.Records.{share, statement, statementBytes, payloadBytes}
 use Rattle.roundtrip.specs.Valid.{ValidBytes, nil, more, shares}
 use Rattle.roundtrip.proofs.Blocks.{statement-inverse}
-use Rattle.roundtrip.proofs.Wholes.{list-whole}
+use Rattle.roundtrip.proofs.Wholes.{many-whole}
 use Rattle.encode_blocks.specs.Whole.{isWhole}
-use Rattle.payloads.specs.Small.{numbersFrom, sharePayload, smallPayloads, payloadLine, smallText}
+use Rattle.payloads.specs.Small.{sharePayload, smallPayloads, payloadLine, smallText, ListSmall}
 
 -- a Share by itself is one statement and nothing else
 pub share-whole : (bytes : List ℕ) → ValidBytes bytes → isWhole (many statement 1) (statementBytes (share bytes)) ≡ true
 unfolding isWhole answer joined
 share-whole bytes few =
     let n = length (statementBytes (share bytes)) in
-    let found = rw append-nil at (list-whole statement-inverse (more (shares {bytes = bytes} few) nil)) in
+    let found = rw append-nil at (many-whole statement-inverse (more (shares {bytes = bytes} few) nil)) in
     rw found (eq-eqb n n refl)
 
 -- and behind a count of 1 the payload
@@ -47,30 +48,23 @@ pub small-empty : getD smallPayloads 1 [] ≡ sharePayload []
 unfolding smallPayloads
 small-empty = refl
 
-getD-shares : (m n i : ℕ) → i < n → getD (map (λ b. sharePayload (b ∷ [])) (numbersFrom m n)) i [] ≡ sharePayload ((m + i) ∷ [])
-unfolding numbersFrom
-getD-shares m zero i h = absurd (not-suc-le-zero h)
-getD-shares m (suc n) zero h = rw add-zero
-getD-shares m (suc n) (suc i) h =
-    let e : suc m + i ≡ m + suc i = omega arith in
-    getD-shares (suc m) n i (le-of-suc-le-suc h) ∙ ap (λ (b : ℕ). sharePayload (b ∷ [])) e
-
 -- behind the first two stand the Shares of one byte
 pub small-share : (i : ℕ) → i < 256 → getD smallPayloads (suc (suc i)) [] ≡ sharePayload (i ∷ [])
 unfolding smallPayloads
 small-share i h =
-    let e : 0 + i ≡ i = omega arith in
-    getD-shares 0 256 i h ∙ ap (λ (b : ℕ). sharePayload (b ∷ [])) e
+    let share : ℕ → List ℕ = λ b. sharePayload (b ∷ []) in
+    getD-numbers share 0 256 i [] h ∙ ap share (zero-add i)
 
 pub text-length : length smallText ≡ 11066
-unfolding smallText smallPayloads numbersFrom payloadLine hexBytes hexDigits sharePayload payloadBytes vecBytes statementBytes byteStringBytes joined le
+unfolding smallText smallPayloads numbersFrom sharePayload payloadBytes vecBytes statementBytes byteStringBytes joined le payloadLine hexBytes hexDigits
 text-length = refl
 
 -- a buffer of that length has the text after the call, and nothing else
-pub text-whole : {out after : List ℕ} {r : ℕ} → length out ≡ 11066 → Put 0 smallText out after r → (r ≡ 11066) × (after ≡ smallText)
+pub text-whole : {out after : List ℕ} {r : ℕ} → length out ≡ 11066 → ListSmall out r after → (r ≡ 11066) × (after ≡ smallText)
 text-whole {out} size put =
-    let rest : drop (0 + length smallText) out ≡ [] = drop-of-length-le out {i = 0 + length smallText} (omega (arith, text-length)) in
-    let all : clipped out 0 smallText ≡ smallText ++ drop (0 + length smallText) out = clipped-fits out 0 smallText (omega (arith, text-length)) in
+    let end = 0 + length smallText in
+    let rest : drop end out ≡ [] = drop-of-length-le out {i = end} (omega (arith, text-length)) in
+    let all : clipped out 0 smallText ≡ smallText ++ drop end out = clipped-fits out 0 smallText (omega (arith, text-length)) in
     (omega (arith, put .next, text-length), put .bytes ∙ all ∙ ap (λ (l : List ℕ). smallText ++ l) rest ∙ append-nil smallText)
 
 -- the first lines are no longer than all

@@ -8,13 +8,14 @@ use borrow.Author.Tests.{lt-ltb}
 use lib.Dec.{lit<}
 use Rattle.laws.specs.Pick.{pick}
 use Rattle.laws.specs.Bytes.{le}
+use Rattle.laws.specs.Numbers.{numbersFrom}
 use Rattle.laws.specs.Parse.{joined}
 use Rattle.laws.proofs.Ascending.{AscendingBy}
 use Rattle.bincode.specs.Bincode.{vecBytes, byteStringBytes}
 use Rattle.types.specs.Records.{statementBytes, payloadBytes}
 use Rattle.rows.specs.Rows.{compared}
 use Rattle.rows.proofs.Lexicographic.{below-trans, irreflexive}
-use Rattle.payloads.specs.Small.{Before, numbersFrom, sharePayload, smallPayloads}
+use Rattle.payloads.specs.Small.{Before, sharePayload, smallPayloads}
 
 pub before-irreflexive : (s : List ℕ) → Before s s → ⊥
 before-irreflexive s h = ⊎-elim (λ l. omega arith) (λ e. irreflexive s (e .1)) h

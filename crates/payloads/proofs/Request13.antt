@@ -3,8 +3,9 @@ use mathlib.Core.Path.{_≡_, refl, subst}
 use mathlib.Core.List.{List, []}
 use Prim.Native.Nat.{ℕ, _<_}
 use lib.ListN.{length, getD}
+use Rattle.laws.specs.Numbers.{numbersFrom}
 use Rattle.laws.proofs.Ascending.{ascending-of, ascending-at, ascending-unique}
-use Rattle.payloads.specs.Small.{Before, numbersFrom, smallPayloads}
+use Rattle.payloads.specs.Small.{Before, smallPayloads}
 use Rattle.payloads.specs.Request13.{Lists, Request-13}
 use Rattle.payloads.proofs.Values.{complete, sound}
 use Rattle.payloads.proofs.Order.{before-irreflexive, before-trans, list-ascends}

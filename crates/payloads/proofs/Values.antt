@@ -1,18 +1,19 @@
 -- Which payloads are small: the list has them all and no others. Both go by the values that the parser gives, and not by the bytes.
 -- Assumes nothing.
-use mathlib.Core.Path.{_≡_, refl, sym, ap, subst, _∙_}
-use mathlib.Core.List.{List, [], _∷_, _++_, map, append-nil, List·Memᴰ, List·Memᴰ·head, List·Memᴰ·tail, List·Memᴰ·cases-cons, List·Memᴰ·not-nil, Memᴰ·map, Memᴰ·of-map}
+use mathlib.Core.Path.{_≡_, refl, sym, ap, subst}
+use mathlib.Core.List.{List, [], _∷_, _++_, append-nil, List·Memᴰ, List·Memᴰ·head, List·Memᴰ·tail, List·Memᴰ·cases-cons, Memᴰ·map, Memᴰ·of-map}
 use mathlib.Core.Logic.{⊎-elim}
 use Prim.Native.Nat.{ℕ, zero, suc, _+_, _≤_, _<_}
-use native.Mathlib.Nat.{zero-add, lt-of-le-of-lt}
+use native.Mathlib.Nat.{lt-of-le-of-lt}
 use native.Mathlib.Omega.{arith}
-use native.Mathlib.Decide.{decLt}
 use lib.Dec.{lit<, lit≤}
 use lib.ListN.{length, length-append}
 use Rattle.laws.specs.Bytes.{AllBytes, le}
-use Rattle.laws.specs.Parse.{got, joined}
+use Rattle.laws.specs.Numbers.{numbersFrom}
+use Rattle.laws.specs.Parse.{joined}
 use Rattle.laws.proofs.AllBytes.{bytes-joined, bytes-le}
 use Rattle.laws.proofs.LittleEndian.{length-le}
+use Rattle.laws.proofs.Numbers.{in-numbers, below-numbers}
 use Rattle.bincode.specs.Bincode.{vecBytes, byteStringBytes}
 use Rattle.types.specs.declared.TransactionLocator.{TransactionLocator}
 use Rattle.types.specs.declared.TransactionLocatorRange.{TransactionLocatorRange}
@@ -21,9 +22,9 @@ use Rattle.put_records.proofs.Lengths.{length-counted, length-digest, length-re
 use Rattle.encode.proofs.Sizes.{share-size, vote-on-length}
 use Rattle.roundtrip.specs.Valid.{nil, more, ValidStatement, shares, ValidList}
 use Rattle.roundtrip.proofs.Blocks.{payload-inverse}
-use Rattle.roundtrip.proofs.RoundTrips.{payload-round-trip}
+use Rattle.roundtrip.proofs.Spans.{itself}
 use Rattle.roundtrip.proofs.Wholes.{record-bytes}
-use Rattle.payloads.specs.Small.{SmallPayload, numbersFrom, sharePayload, smallPayloads}
+use Rattle.payloads.specs.Small.{SmallPayload, sharePayload, smallPayloads}
 
 -- ---- Sizes
 
@@ -35,7 +36,8 @@ one-size : (x : StatementValue) → length (joined statementBytes (x ∷ [])) �
 unfolding joined
 one-size x = ap length (append-nil (statementBytes x))
 
-more-size : (x : StatementValue) (xs : List StatementValue) → length (joined statementBytes (x ∷ xs)) ≡ length (statementBytes x) + length (joined statementBytes xs)
+more-size : (x : StatementValue) (xs : List StatementValue)
+    → length (joined statementBytes (x ∷ xs)) ≡ length (statementBytes x) + length (joined statementBytes xs)
 unfolding joined
 more-size x xs = length-append (statementBytes x) (joined statementBytes xs)
 
@@ -62,15 +64,6 @@ statement-least (voteOn l v) = omega (arith, vote-on-long l v)
 statement-least (voteRange r) = omega (arith, vote-range-long r)
 
 -- ---- Complete
-
-in-numbers : (m n b : ℕ) → m ≤ b → b < m + n → List·Memᴰ b (numbersFrom m n)
-unfolding numbersFrom
-in-numbers m zero b h k = absurd (omega arith)
-in-numbers m (suc n) b h k =
-    elim (decLt m b) [
-      | yes l ↦ List·Memᴰ·tail (in-numbers (suc m) n b l (omega arith))
-      | no l ↦ let e : b ≡ m = omega arith in List·Memᴰ·head e
-    ]
 
 -- the byte of a Share of one byte is the payload's last
 last-byte : (b : ℕ) → AllBytes (sharePayload (b ∷ [])) → b < 256
@@ -121,8 +114,7 @@ laid-decodes xs valid bytes short =
       bytes = bytes;
       short = short;
       statements = xs;
-      decodes = payload-round-trip .decodes (payloadBytes xs) 0 xs [] valid (sym (append-nil (payloadBytes xs)))
-          ∙ ap (got xs) (zero-add (length (payloadBytes xs)));
+      decodes = payload-inverse .decoded xs valid (itself (payloadBytes xs));
     }
 
 none-small : SmallPayload (payloadBytes [])
@@ -146,12 +138,6 @@ share-small bytes all few =
 one-byte : (b : ℕ) → b < 256 → AllBytes (b ∷ [])
 one-byte b h zero = h
 one-byte b h (suc i) = lit< tt
-
-below-numbers : (m n : ℕ) {b : ℕ} → List·Memᴰ b (numbersFrom m n) → b < m + n
-unfolding numbersFrom
-below-numbers m zero h = absurd (List·Memᴰ·not-nil h)
-below-numbers m (suc n) h =
-    ⊎-elim (λ e. omega (arith, e)) (λ k. omega (arith, below-numbers (suc m) n k)) (List·Memᴰ·cases-cons h)
 
 pub sound : (s : List ℕ) → List·Memᴰ s smallPayloads → SmallPayload s
 unfolding smallPayloads

@@ -6,11 +6,9 @@ use mathlib.Core.Option.{some}
 use Prim.Native.Nat.{ℕ, _≤_, _<_}
 use lib.ListN.{length, getD}
 use Rattle.laws.specs.Bytes.{written}
-use Rattle.text.specs.Put.{Put}
 use Rattle.encode.specs.declared.Encoded.{Encoded}
 use Rattle.encode.specs.declared.Encoded.the-variants.{End}
-use Rattle.encode.specs.Encoding.{Encodes}
-use Rattle.payloads.specs.Small.{SmallPayload, Before, smallPayloads, smallText, encodedAgain}
+use Rattle.payloads.specs.Small.{SmallPayload, Before, smallPayloads, smallText, ListSmall, encodedAgain, PayloadAgain}
 
 -- l has every small payload and nothing else, each before all that stand behind it
 pub record Lists (l : List (List ℕ)) : Type 0 where
@@ -18,11 +16,11 @@ pub record Lists (l : List (List ℕ)) : Type 0 where
   pub sound : (s : List ℕ) → In s l → SmallPayload s
   pub ordered : (i j : ℕ) → i < j → j < length l → Before (getD l i []) (getD l j [])
 
--- what a call of `payload_again` on s, with room for s, comes to: the answer is the length of s, and the buffer has s at its start and
--- behind it what it had there. `Encodes out 0 (encodedAgain s) r after` is that call's contract.
+-- every call of `payload_again` on s with room for s answers the length of s and leaves s at the buffer's start, and behind it what was
+-- there
 abbrev pub EncodesToItself : List ℕ → Type 0
 EncodesToItself s =
-    (out : List ℕ) (r : Encoded) (after : List ℕ) → length s ≤ length out → Encodes out 0 (encodedAgain s) r after
+    (out : List ℕ) (r : Encoded) (after : List ℕ) → length s ≤ length out → PayloadAgain s out r after
     → (r ≡ End (length s)) × (after ≡ written out 0 s)
 
 pub record Request-13 : Type 0 where
@@ -35,8 +33,7 @@ pub record Request-13 : Type 0 where
   -- "each, encoded again, gives its own bytes", by the layout and by the call
   pub again : (s : List ℕ) → In s smallPayloads → encodedAgain s ≡ some s
   pub again-called : (s : List ℕ) → In s smallPayloads → EncodesToItself s
-  -- "A program writes": a buffer of 11,066 bytes, as the program's is, has the whole text after a call of `list_small`, and nothing else.
-  -- `Put 0 smallText out after r` is that call's contract.
-  pub text : (out : List ℕ) (r : ℕ) (after : List ℕ) → length out ≡ 11066 → Put 0 smallText out after r → (r ≡ 11066) × (after ≡ smallText)
+  -- "A program writes": every call of `list_small` on a buffer of 11,066 bytes, as the program's is, leaves the whole text in it
+  pub text : (out : List ℕ) (r : ℕ) (after : List ℕ) → length out ≡ 11066 → ListSmall out r after → (r ≡ 11066) × (after ≡ smallText)
   -- the request's words leave no choice: no other list meets them
   pub only : (l : List (List ℕ)) → Lists l → l ≡ smallPayloads

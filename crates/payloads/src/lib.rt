@@ -11,9 +11,8 @@ ghost use Rattle.laws.specs.Bytes.{le};
 ghost use Rattle.laws.specs.Parse.{many};
 ghost use Rattle.text.specs.Put.{Put};
 ghost use Rattle.types.specs.Records.{statement};
-ghost use Rattle.encode.specs.Encoding.{Encodes};
 ghost use Rattle.encode_blocks.specs.Whole.{isWhole};
-ghost use Rattle.payloads.specs.Small.{sharePayload, smallPayloads, payloadLine, smallText, encodedAgain};
+ghost use Rattle.payloads.specs.Small.{sharePayload, smallPayloads, payloadLine, ListSmall, PayloadAgain};
 
 // The most bytes of a small payload, and of its statements, which stand behind their count.
 const PAYLOAD_MAX: usize = 21;
@@ -26,7 +25,7 @@ const COUNT: u64 = 258;
 // Decodes the payload at the start of s and encodes it again, at the start of out. Bytes behind the
 // payload are ignored, as its decoder ignores them.
 pub fn payload_again(s: &[u8], out: &mut [u8]) -> Encoded
-    ensures { λ r. ⌜ Encodes (now (out .entry)) 0 (encodedAgain (now (s .entry))) r (now (out .exit)) ⌝ }
+    ensures { λ r. ⌜ PayloadAgain (now (s .entry)) (now (out .entry)) r (now (out .exit)) ⌝ }
 {
     let Part::Got(start, count, end) = commits::decode_payload(s, 0) else {
         return Encoded::Malformed;
@@ -41,6 +40,7 @@ fn put_payload(out: &mut [u8], at: usize, statements: &[u8], count: u64) -> usiz
     ensures { λ r. ⌜ Put at (payloadLine (le 8 count ++ now (statements .entry))) (now (out .entry)) (now (out .exit)) r ⌝ }
 {
     let mut payload = [0u8; PAYLOAD_MAX];
+    // They are whole statements and there is room, so that the encoder answers End.
     let Encoded::End(end) = encode_blocks::encode_payload(&mut payload, 0, statements, count) else {
         return at;
     };
@@ -54,6 +54,7 @@ fn put_share(out: &mut [u8], at: usize, bytes: &[u8]) -> usize
     ensures { λ r. ⌜ Put at (payloadLine (sharePayload (now (bytes .entry)))) (now (out .entry)) (now (out .exit)) r ⌝ }
 {
     let mut statement = [0u8; STATEMENTS_MAX];
+    // There is room, so that the encoder answers End.
     let Encoded::End(end) = encode::encode_share(&mut statement, 0, bytes) else {
         return at;
     };
@@ -75,7 +76,7 @@ fn put_small(out: &mut [u8], at: usize, i: u64) -> usize
 // Fills out with the small payloads, in hexadecimal and a line each. What does not fit is left out,
 // and the answer is the length of the whole text.
 pub fn list_small(out: &mut [u8]) -> usize
-    ensures { λ r. ⌜ Put 0 smallText (now (out .entry)) (now (out .exit)) r ⌝ }
+    ensures { λ r. ⌜ ListSmall (now (out .entry)) r (now (out .exit)) ⌝ }
 {
     let mut at = 0;
     let mut i = 0;

@@ -23,6 +23,6 @@ module _ {A : Type 0} {f : Parser A} {layout : A → List ℕ} {Valid : A → Ty
   list-bytes n h = ap₂ (λ (k : ℕ) (v : List ℕ). le 8 k ++ v) (many-length f s n 0 h) (all (many-forth inv s bytes n 0 zero-le h .spans))
 
 -- elements in a row decode to themselves, and nothing is left over
-pub list-whole : {A : Type 0} {f : Parser A} {layout : A → List ℕ} {Valid : A → Type 0} → Inverse f layout Valid → {xs : List A} → Every Valid xs
-    → many f (length xs) (joined layout xs) 0 ≡ got xs (length (joined layout xs))
-list-whole {layout = layout} inv {xs} v = many-back inv v (itself (joined layout xs))
+pub many-whole : {A : Type 0} {f : Parser A} {layout : A → List ℕ} {Valid : A → Type 0} → Inverse f layout Valid
+    → {xs : List A} → Every Valid xs → many f (length xs) (joined layout xs) 0 ≡ got xs (length (joined layout xs))
+many-whole {layout = layout} inv v = many-back inv v (itself (joined layout _))

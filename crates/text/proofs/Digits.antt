@@ -2,7 +2,7 @@
 use mathlib.Core.Path.{_≡_, refl, sym, ap, _∙_}
 use mathlib.Core.List.{List, [], _∷_, _++_}
 use Prim.Native.Nat.{ℕ, zero, suc, _+_, _-_, _*_, _/_, _%_, _^_, _≤_, _<_}
-use native.Mathlib.Nat.{not-suc-le-zero, lt-of-lt-of-le, pow-suc, div-one}
+use native.Mathlib.Nat.{not-suc-le-zero, lt-of-lt-of-le, pow-suc}
 use native.Mathlib.Numerals.{sub-one}
 use native.Mathlib.Omega.{arith}
 use native.Mathlib.Decide.{decLt}
@@ -59,9 +59,14 @@ length-decimal (suc d) n h =
 pub length-decimal-64 : (n : ℕ) → n < 2 ^ 64 → length (decimal n) ≤ 20
 length-decimal-64 n h = length-decimal 19 n (lt-of-lt-of-le h (lit≤ tt))
 
+pub length-hexDigits : (k n : ℕ) → length (hexDigits k n) ≡ k
+unfolding hexDigits
+length-hexDigits zero n = refl
+length-hexDigits (suc k) n = ap suc (length-hexDigits k n)
+
 pub length-hex8 : (n : ℕ) → length (hex8 n) ≡ 8
-unfolding hex8 hexDigits
-length-hex8 n = refl
+unfolding hex8
+length-hex8 n = length-hexDigits 8 n
 
 -- The last k hexadecimal digits: none, and the first of several.
 pub hexDigits-none : (k n : ℕ) → k ≤ 0 → hexDigits k n ≡ []
@@ -74,11 +79,7 @@ unfolding hexDigits
 hexDigits-next zero n h = absurd (not-suc-le-zero h)
 hexDigits-next (suc k) n h = rw sub-one
 
--- A byte's two digits, and the length of those of some bytes.
-pub hexDigits-two : (b : ℕ) → hexDigits 2 b ≡ hexDigit (b / 16 % 16) ∷ hexDigit (b % 16) ∷ []
-unfolding hexDigits
-hexDigits-two b = rw div-one
-
+-- The length of the digits of some bytes.
 pub length-hexBytes : (bytes : List ℕ) → length (hexBytes bytes) ≡ 2 * length bytes
 unfolding hexBytes joined hexDigits
 length-hexBytes [] = refl

@@ -1,6 +1,6 @@
 // Text into a buffer that the caller lends, as C's snprintf writes it: what does not fit is left out,
 // and the answer is where the text would end.
-ghost use Prim.Native.Nat.{_+_, _<_, _%_, _^_};
+ghost use Prim.Native.Nat.{_+_, _≤_, _<_, _%_, _^_};
 ghost use mathlib.Core.Path.{_≡_};
 ghost use mathlib.Core.List.{[], _∷_};
 ghost use lib.ListN.{length};
@@ -43,30 +43,27 @@ pub fn put_decimal(out: &mut [u8], at: usize, n: u64) -> usize
     next + 1
 }
 
-// Puts n as eight hexadecimal digits, from index at on.
-pub fn put_hex8(out: &mut [u8], at: usize, n: u32) -> usize
-    requires { ⌜ at < 2 ^ 63 ⌝ }
-    ensures { λ r. ⌜ Put at (hex8 n) (now (out .entry)) (now (out .exit)) r ⌝ }
+// Puts the last `digits` hexadecimal digits of n, from index at on.
+fn put_hex(out: &mut [u8], at: usize, n: u32, digits: usize) -> usize
+    requires { ⌜ (at < 2 ^ 63) × (digits ≤ 8) ⌝ }
+    ensures { λ r. ⌜ Put at (hexDigits digits n) (now (out .entry)) (now (out .exit)) r ⌝ }
 {
     let mut done = 0;
-    let mut left: usize = 8;
+    let mut left = digits;
     while left > 0 {
         left -= 1;
         store(out, at + done, hex_digit(n >> (4 * left)));
         done += 1;
     }
-    at + 8
+    at + digits
 }
 
-// Puts b as two hexadecimal digits, at index at and the next.
-fn put_hex2(out: &mut [u8], at: usize, b: u8) -> usize
+// Puts n as eight hexadecimal digits, from index at on.
+pub fn put_hex8(out: &mut [u8], at: usize, n: u32) -> usize
     requires { ⌜ at < 2 ^ 63 ⌝ }
-    ensures { λ r. ⌜ Put at (hexDigits 2 b) (now (out .entry)) (now (out .exit)) r ⌝ }
+    ensures { λ r. ⌜ Put at (hex8 n) (now (out .entry)) (now (out .exit)) r ⌝ }
 {
-    let n = b as u32;
-    store(out, at, hex_digit(n >> 4));
-    store(out, at + 1, hex_digit(n));
-    at + 2
+    put_hex(out, at, n, 8)
 }
 
 // Puts each byte as two hexadecimal digits, from index at on.
@@ -77,10 +74,17 @@ pub fn put_hex_bytes(out: &mut [u8], at: usize, bytes: &[u8]) -> usize
     let mut next = at;
     let mut i = 0;
     while i < bytes.len() {
-        next = put_hex2(out, next, bytes[i]);
+        next = put_hex(out, next, wide(bytes[i]), 2);
         i += 1;
     }
     next
+}
+
+// A byte as a number of 32 bits.
+fn wide(b: u8) -> u32
+    ensures { λ r. ⌜ r ≡ b ⌝ }
+{
+    b as u32
 }
 
 // Stores b at index at, unless the buffer ends before it.

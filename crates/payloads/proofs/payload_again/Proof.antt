@@ -2,7 +2,7 @@
 use borrow.Author.Needs.{needs}
 use mathlib.Core.Path.{_≡_}
 use mathlib.Core.List.{List}
-use Prim.Native.Nat.{_+_, _≤_}
+use Prim.Native.Nat.{ℕ, _+_, _≤_}
 use native.Mathlib.Omega.{arith}
 use lib.ListN.{length}
 use Rattle.laws.specs.Bytes.{AllBytes}
@@ -15,19 +15,19 @@ use Rattle.payloads.proofs.payload_again.Statement.{statement}
 use Rattle.payloads.proofs.payload_again.Tie as tie
 
 -- what the decoder found
-found : (c : tie.After-start)
-    → (xs : List StatementValue) × (payload (c .before .before .before .before .before .args .s .now) 0 ≡ got xs (c .start .given .0 .1 .1 .0))
+abbrev bytes-of : tie.After-start → List ℕ
+bytes-of c = c .before .before .before .before .before .args .s .now
+
+found : (c : tie.After-start) → (xs : List StatementValue) × (payload (bytes-of c) 0 ≡ got xs (c .start .given .0 .1 .1 .0))
     × (length xs ≡ c .start .given .0 .1 .0) × (c .start .given .0 .0 ≡ 0 + 8)
 found c = part-got 0 _ (c .before .before .decode-payload .ensures) (c .start .given .1)
 
-bytes : (c : tie.After-start) → AllBytes (c .before .before .before .before .before .args .s .now)
+bytes : (c : tie.After-start) → AllBytes (bytes-of c)
 bytes c i = omega (arith, c .before .before .before .before .shared-slice-known .given i)
 
 -- the statements lie within the bytes
 abbrev Within : tie.After-start → Type 0
-Within c =
-    (c .start .given .0 .0 ≤ c .start .given .0 .1 .1 .0)
-    × (c .start .given .0 .1 .1 .0 ≤ length (c .before .before .before .before .before .args .s .now))
+Within c = (c .start .given .0 .0 ≤ c .start .given .0 .1 .1 .0) × (c .start .given .0 .1 .1 .0 ≤ length (bytes-of c))
 
 within : (c : tie.After-start) → Within c
 within c =

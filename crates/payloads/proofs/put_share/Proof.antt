@@ -1,6 +1,6 @@
 -- `payloads::put_share` meets its contract: a Share of at most one byte has room, and is one statement. Assumes nothing.
 use borrow.Author.Needs.{needs}
-use mathlib.Core.Path.{_≡_, sym, ap, _∙_}
+use mathlib.Core.Path.{_≡_, ap}
 use mathlib.Core.List.{List}
 use mathlib.Core.Logic.{⊎-elim}
 use Prim.Native.Nat.{ℕ, _≤_}
@@ -9,7 +9,7 @@ use native.Mathlib.Omega.{arith}
 use lib.Dec.{lit<}
 use lib.ListN.{length, take}
 use Rattle.types.specs.Records.{share, statementBytes}
-use Rattle.encode.proofs.Encodings.{AtStart, at-start, end-at-start, bytes-at-start}
+use Rattle.encode.proofs.Encodings.{AtStart, at-start, within-at-start, bytes-at-start, length-at-start}
 use Rattle.encode.proofs.Sizes.{share-size}
 use Rattle.payloads.proofs.Lines.{share-whole, share-counted}
 use Rattle.payloads.proofs.put_share.Statement.{statement}
@@ -21,22 +21,14 @@ bytes c = statementBytes (share (c .args .bytes .now))
 size : (c : tie.Start) → length (bytes c) ≤ 13
 size c = omega (arith, c .pre .1, share-size (c .args .bytes .now))
 
--- the encoder wrote it
-written : (c : tie.After-encode-share)
+encoded : (c : tie.After-encode-share)
     → AtStart (bytes (c .before .before .before .before)) (c .encode-share .result) (c .encode-share .last .0)
-written c = at-start (c .encode-share .ensures) (size (c .before .before .before .before))
+encoded c = at-start (c .encode-share .ensures) (size (c .before .before .before .before))
 
--- so that the bytes up to the place that it answered are its own
-abbrev part : tie.After-end → List ℕ
-part c = take (c .end .given .0 .0) (c .before .before .before .encode-share .last .0)
-
-abbrev Shown : tie.After-end → List ℕ → Type 0
-Shown c v = (c .end .given .0 .0 ≡ length v) × (part c ≡ v)
-
-shown : (c : tie.After-end) → Shown c (bytes (c .before .before .before .before .before .before .before))
-shown c =
-    let w = written (c .before .before .before) in
-    (end-at-start w (c .end .given .1), bytes-at-start w (c .end .given .1))
+-- what is passed on: the statement
+part-is : (c : tie.After-end) → take (c .end .given .0 .0) (c .before .before .before .encode-share .last .0)
+    ≡ bytes (c .before .before .before .before .before .before .before)
+part-is c = bytes-at-start (encoded (c .before .before .before)) (c .end .given .1)
 
 slice-aggregate-encode-share : tie.Need-slice-aggregate-encode-share
 slice-aggregate-encode-share c = search needs
@@ -47,25 +39,25 @@ encode-share-requires c κs = search needs
 enum-known-end : tie.Need-enum-known-end
 enum-known-end c = search needs
 
+-- another answer than End there is not
 returns : tie.Need-returns
 returns c =
-    ⊎-elim (λ e. absurd (omega (arith, e))) (λ e. absurd (omega (arith, e))) (rw (written (c .before .before) .answer) at (c .match .keys2))
+    ⊎-elim (λ e. absurd (omega (arith, e))) (λ e. absurd (omega (arith, e))) (rw (encoded (c .before .before) .answer) at (c .match .keys2))
 
 array-share-prefix-statement : tie.Need-array-share-prefix-statement
 array-share-prefix-statement c =
-    omega (arith, written (c .before .before .before .before .before) .within, shown (c .before .before) .0)
+    within-at-start (encoded (c .before .before .before .before .before)) (c .before .before .end .given .1)
 
 slice-aggregate-put-payload : tie.Need-slice-aggregate-put-payload
 slice-aggregate-put-payload c =
-    let e = shown (c .before .before .before) in
-    e .0 ∙ sym (ap length (e .1))
+    length-at-start (encoded (c .before .before .before .before .before .before)) (c .before .before .before .end .given .1)
 
 put-payload-requires : tie.Need-put-payload-requires
 put-payload-requires c κs =
-    let s = c .before .before .before .before .before .before .before .before .before .before in
-    let e = shown (c .before .before .before) .1 in (
-      (omega (arith, s .pre .0), omega (arith, ap length e, size s)),
-      rw e (share-whole (s .args .bytes .now) (lt-of-le-of-lt (s .pre .1) (lit< tt))),
+    let end = c .before .before .before in
+    let s = end .before .before .before .before .before .before .before in (
+      (omega (arith, s .pre .0), omega (arith, ap length (part-is end), size s)),
+      rw (part-is end) (share-whole (s .args .bytes .now) (lt-of-le-of-lt (s .pre .1) (lit< tt))),
     )
 
 same-length : tie.Need-same-length
@@ -73,9 +65,9 @@ same-length c = search needs
 
 returns-2 : tie.Need-returns-2
 returns-2 c =
-    let s = c .before .before .before .before .before .before .before .before .before .before .before .before .before in
-    rw (shown (c .before .before .before .before .before .before) .1, share-counted (s .args .bytes .now)) at
-    (c .before .before .put-payload .ensures)
+    let end = c .before .before .before .before .before .before in
+    let s = end .before .before .before .before .before .before .before in
+    rw (part-is end, share-counted (s .args .bytes .now)) at (c .before .before .put-payload .ensures)
 
 pub put-share-spec : {M : Type 1} → statement M
 put-share-spec =

@@ -1,94 +1,18 @@
--- `text::put_hex8` meets its contract. After `done` digits the last `left` digits are still to be put behind them. Assumes nothing.
+-- `text::put_hex8` meets its contract: it is `put_hex` of eight digits. Assumes nothing.
 use borrow.Author.Needs.{needs}
-use mathlib.Core.Path.{_≡_, refl, sym, ap, _∙_}
-use mathlib.Core.List.{_∷_}
-use Prim.Native.Nat.{ℕ, _+_, _-_}
-use native.Mathlib.Nat.{add-zero}
-use native.Mathlib.Omega.{arith}
-use Rattle.text.specs.Clipped.{clipped}
-use Rattle.text.specs.Digits.{hexDigits, hex8}
-use Rattle.text.proofs.Digits.{hexDigits-none, hexDigits-next, length-hex8}
-use Rattle.text.proofs.Put as put
+use Rattle.text.specs.Digits.{hex8}
 use Rattle.text.proofs.put_hex8.Statement.{statement}
 use Rattle.text.proofs.put_hex8.Tie as tie
 
-abbrev Inv-loop : tie.InvT-loop
-Inv-loop out₀ at n done₀ left₀ out done left =
-    (done + left ≡ 8) × (clipped out (at + done) (hexDigits left n) ≡ clipped out₀ at (hex8 n))
+put-hex-requires : tie.Need-put-hex-requires
+put-hex-requires c κs = search needs
 
-abbrev μ-loop : tie.MeasureT-loop
-μ-loop out₀ at n done₀ left₀ out done left = left
+same-length : tie.Need-same-length
+same-length c = search needs
 
-loop-holds : tie.Need-loop-holds Inv-loop μ-loop
+returns : tie.Need-returns
 unfolding hex8
-loop-holds c = (refl, rw add-zero)
-
-sub-left : tie.Need-sub-left Inv-loop μ-loop
-sub-left c = omega arith
-
-add-store : tie.Need-add-store Inv-loop μ-loop
-add-store c = omega arith
-
-mul-hex-digit : tie.Need-mul-hex-digit Inv-loop μ-loop
-mul-hex-digit c = omega arith
-
-cast-hex-digit : tie.Need-cast-hex-digit Inv-loop μ-loop
-cast-hex-digit c = omega arith
-
-shr-hex-digit : tie.Need-shr-hex-digit Inv-loop μ-loop
-shr-hex-digit c = omega arith
-
-hex-digit-requires : tie.Need-hex-digit-requires Inv-loop μ-loop
-hex-digit-requires c κs = search needs
-
-store-requires : tie.Need-store-requires Inv-loop μ-loop
-store-requires c κs = search needs
-
-add-done : tie.Need-add-done Inv-loop μ-loop
-add-done c = omega arith
-
-loop-less : tie.Need-loop-less Inv-loop μ-loop
-loop-less c = omega arith
-
-loop-again : tie.Need-loop-again Inv-loop μ-loop
-loop-again c =
-    let a = c .before .before .before .before .before .before .before .before .args in
-    let l = c .before .before .before .before .before .before .loop in (
-      search needs,
-      put.next (l .out) (a .at) (l .done) _
-          (hexDigits-next (l .left) (a .n) (c .before .before .before .before .before .loop-test .taken)
-          ∙ ap (λ (d : ℕ). d ∷ hexDigits (l .left - 1) (a .n)) (sym (c .before .before .before .hex-digit .ensures)))
-          (c .before .before .store .ensures) (l .inv .1),
-    )
-
-add-result : tie.Need-add-result Inv-loop μ-loop
-add-result c = omega arith
-
-same-length : tie.Need-same-length Inv-loop μ-loop
-same-length c = put.same _ _ _ _ _ _ (c .before .loop .inv .1)
-
-returns : tie.Need-returns Inv-loop μ-loop
-returns c =
-    let l = c .before .loop in
-    record { next = rw length-hex8; bytes = put.done (l .out) _ (hexDigits-none _ _ (c .loop-test .left)) (l .inv .1) }
+returns c = c .before .before .put-hex .ensures
 
 pub put-hex8-spec : {M : Type 1} → statement M
-put-hex8-spec =
-    tie.close
-    (tie.spec
-    Inv-loop
-    μ-loop
-    loop-holds
-    sub-left
-    add-store
-    mul-hex-digit
-    cast-hex-digit
-    shr-hex-digit
-    hex-digit-requires
-    store-requires
-    add-done
-    loop-less
-    loop-again
-    add-result
-    same-length
-    returns)
+put-hex8-spec = tie.close (tie.spec put-hex-requires same-length returns)

@@ -2,6 +2,7 @@
 use borrow.Author.Needs.{needs}
 use Prim.Native.Nat.{_-_, _≤_}
 use native.Mathlib.Omega.{arith}
+use lib.Dec.{lit≤}
 use lib.ListN.{length, take}
 use lib.Seq.{length-take-le}
 use Rattle.laws.specs.Parse.{joined}
@@ -22,14 +23,17 @@ loop-holds : tie.Need-loop-holds Inv-loop μ-loop
 unfolding hexBytes joined
 loop-holds c = (search needs, put-none)
 
-shared-slice-read-put-hex2 : tie.Need-shared-slice-read-put-hex2 Inv-loop μ-loop
-shared-slice-read-put-hex2 c = omega arith
+shared-slice-read-wide : tie.Need-shared-slice-read-wide Inv-loop μ-loop
+shared-slice-read-wide c = omega arith
 
-put-hex2-requires : tie.Need-put-hex2-requires Inv-loop μ-loop
-put-hex2-requires c κs =
-    let l = c .before .before .before .loop in
-    let bytes = c .before .before .before .before .before .before .args .bytes .now in
-    omega (arith, l .inv .1 .next, length-hexBytes (take (l .i) bytes), length-take-le (l .i) bytes (l .inv .0))
+wide-requires : tie.Need-wide-requires Inv-loop μ-loop
+wide-requires c κs = search needs
+
+put-hex-requires : tie.Need-put-hex-requires Inv-loop μ-loop
+put-hex-requires c κs =
+    let l = c .before .before .before .before .loop in
+    let bytes = c .before .before .before .before .before .before .before .args .bytes .now in
+    (omega (arith, l .inv .1 .next, length-hexBytes (take (l .i) bytes), length-take-le (l .i) bytes (l .inv .0)), lit≤ tt)
 
 add-i : tie.Need-add-i Inv-loop μ-loop
 add-i c = omega arith
@@ -40,11 +44,11 @@ loop-less c = omega arith
 loop-again : tie.Need-loop-again Inv-loop μ-loop
 unfolding hexBytes
 loop-again c =
-    let l = c .before .before .before .before .before .before .loop in
-    let bytes = c .before .before .before .before .before .before .before .before .before .args .bytes .now in (
+    let l = c .before .before .before .before .before .before .before .loop in
+    let bytes = c .before .before .before .before .before .before .before .before .before .before .args .bytes .now in (
       omega arith,
-      put-next (hexDigits 2) bytes (l .i) (l .inv .1) 0 (c .before .before .before .before .before .loop-test .taken)
-          (c .before .before .put-hex2 .ensures),
+      put-next (hexDigits 2) bytes (l .i) (l .inv .1) 0 (c .before .before .before .before .before .before .loop-test .taken)
+          (rw (c .before .before .before .wide .ensures) at (c .before .before .put-hex .ensures)),
     )
 
 same-length : tie.Need-same-length Inv-loop μ-loop
@@ -63,8 +67,9 @@ put-hex-bytes-spec =
     Inv-loop
     μ-loop
     loop-holds
-    shared-slice-read-put-hex2
-    put-hex2-requires
+    shared-slice-read-wide
+    wide-requires
+    put-hex-requires
     add-i
     loop-less
     loop-again

@@ -1,7 +1,7 @@
--- The list's first payloads and their lines, by computation. Assumes nothing.
+-- The list's first and last payload with their lines, and the lengths of all, by computation. Assumes nothing.
 use mathlib.Core.Path.{_≡_, refl}
-use mathlib.Core.List.{[], _∷_, _++_}
-use lib.ListN.{getD}
+use mathlib.Core.List.{[], _∷_, _++_, map}
+use lib.ListN.{length, getD, replicate}
 use Rattle.laws.specs.Ascii.{ascii, lineFeed}
 use Rattle.laws.specs.Bytes.{le}
 use Rattle.laws.specs.Numbers.{numbersFrom}
@@ -21,6 +21,11 @@ last : getD smallPayloads 257 []
     ≡ 1 ∷ 0 ∷ 0 ∷ 0 ∷ 0 ∷ 0 ∷ 0 ∷ 0 ∷ 0 ∷ 0 ∷ 0 ∷ 0 ∷ 1 ∷ 0 ∷ 0 ∷ 0 ∷ 0 ∷ 0 ∷ 0 ∷ 0 ∷ 255 ∷ []
 unfolding smallPayloads numbersFrom sharePayload payloadBytes vecBytes statementBytes byteStringBytes joined le
 last = refl
+
+-- one of 8 bytes, one of 20 and 256 of 21
+lengths : map length smallPayloads ≡ 8 ∷ 20 ∷ replicate 256 21
+unfolding smallPayloads numbersFrom sharePayload payloadBytes vecBytes statementBytes byteStringBytes joined le
+lengths = refl
 
 first-line : payloadLine (getD smallPayloads 0 []) ≡ ascii "0000000000000000" ++ (lineFeed ∷ [])
 unfolding smallPayloads payloadBytes vecBytes joined le payloadLine hexBytes hexDigits hexDigit ascii

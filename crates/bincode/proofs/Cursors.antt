@@ -13,15 +13,15 @@ use Rattle.laws.specs.Parse.{bad, got, Parser, answer, many}
 use Rattle.laws.proofs.Tests.{leb-cases}
 use Rattle.laws.proofs.Parses.{many-cons}
 use Rattle.bincode.specs.declared.Cursor.{Cursor}
-use Rattle.bincode.specs.Cursors.{next, past, after}
+use Rattle.bincode.specs.Cursors.{nextElement, past, after}
 
 module _ {A : Type 0} (f : Parser A) (s : List ℕ) where
-  pub next-none : (c : Cursor) → c .left ≡ 0 → next f s c ≡ bad
-  unfolding next pick
+  pub next-none : (c : Cursor) → c .left ≡ 0 → nextElement f s c ≡ bad
+  unfolding nextElement pick
   next-none c z = rw (eq-eqb (c .left) 0 z)
 
-  pub next-some : (c : Cursor) → (c .left ≡ 0 → ⊥) → next f s c ≡ f s (c .at)
-  unfolding next pick
+  pub next-some : (c : Cursor) → (c .left ≡ 0 → ⊥) → nextElement f s c ≡ f s (c .at)
+  unfolding nextElement pick
   next-some c nz = rw (ne-eqb (c .left) 0 nz)
 
   -- a cursor over the elements of a list: the next one, the cursor behind it, and the elements that are left
@@ -29,7 +29,7 @@ module _ {A : Type 0} (f : Parser A) (s : List ℕ) where
     pub first : A
     pub end : ℕ
     pub others : List A
-    pub found : next f s c ≡ got first end
+    pub found : nextElement f s c ≡ got first end
     pub rest : many f (past c end .left) s (past c end .at) ≡ got others e
     pub list : xs ≡ first ∷ others
 
@@ -48,7 +48,7 @@ module _ {A : Type 0} (f : Parser A) (s : List ℕ) where
 
   -- the i-th step gives the i-th element
   pub step-at : (i : ℕ) (c : Cursor) {xs : List A} {e : ℕ} → many f (c .left) s (c .at) ≡ got xs e → (d : A) → i < c .left
-      → (q : ℕ) × (next f s (after f s i c) ≡ got (getD xs i d) q)
+      → (q : ℕ) × (nextElement f s (after f s i c) ≡ got (getD xs i d) q)
   unfolding after answer
   step-at zero c {xs} h d l =
       let t = step c h l in
@@ -60,14 +60,14 @@ module _ {A : Type 0} (f : Parser A) (s : List ℕ) where
 
   -- and from the last on there is none
   pub step-past : (n : ℕ) (c : Cursor) {xs : List A} {e : ℕ} → many f (c .left) s (c .at) ≡ got xs e → c .left ≤ n
-      → next f s (after f s n c) ≡ bad
+      → nextElement f s (after f s n c) ≡ bad
   unfolding after answer
   step-past zero c h l = next-none c (omega arith)
   step-past (suc n) c {xs} {e} h l = from (λ d ys g m. step-past n d {xs = ys} {e = e} g m) (leb-cases (c .left) 0)
     where
-      from : ((d : Cursor) (ys : List A) → many f (d .left) s (d .at) ≡ got ys e → d .left ≤ n → next f s (after f s n d) ≡ bad)
-          → ((leb (c .left) 0 ≡ true) × (c .left ≤ 0)) ⊎ ((leb (c .left) 0 ≡ false) × (0 < c .left)) → next f s (after f s (suc n) c) ≡ bad
-      from later (inl z) = let none : next f s c ≡ bad = next-none c (omega (arith, z .1)) in rw none none
+      from : ((d : Cursor) (ys : List A) → many f (d .left) s (d .at) ≡ got ys e → d .left ≤ n → nextElement f s (after f s n d) ≡ bad)
+          → ((leb (c .left) 0 ≡ true) × (c .left ≤ 0)) ⊎ ((leb (c .left) 0 ≡ false) × (0 < c .left)) → nextElement f s (after f s (suc n) c) ≡ bad
+      from later (inl z) = let none : nextElement f s c ≡ bad = next-none c (omega (arith, z .1)) in rw none none
       from later (inr m) =
           let t = step c h (m .1) in
           rw (t .found) (later (past c (t .end)) (t .others) (t .rest) (omega arith))

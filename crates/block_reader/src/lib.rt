@@ -1,3 +1,6 @@
+// Ported from block_store.rs of mahi-mahi-consensus, Copyright (c) Mysten Labs, Inc., Apache-2.0.
+// Changed: written anew in Rattle, with contracts. NOTICE says what was carried across and what was changed.
+
 // Reads a block from the log at a position (block_store.rs, read_index): its reference, and where its bytes
 // stand in the image.
 ghost use mathlib.Core.Path.{_≡_};

@@ -6,18 +6,18 @@ use Rattle.laws.specs.Parse.{Res, bad, got}
 use Rattle.laws.proofs.Parses.{flagged, found-ok, found-none, found-some}
 use Rattle.types.specs.Records.{BlockValue}
 use Rattle.blocks.specs.declared.DecodedBlock.{DecodedBlock}
-use Rattle.blocks.specs.declared.Seal.{Seal}
-use Rattle.blocks.specs.Answers.{SealValue, noSeal, sealAnswer, blockOf, noBlock, blockAnswer}
+use Rattle.blocks.specs.declared.Trailer.{Trailer}
+use Rattle.blocks.specs.Answers.{TrailerValue, noTrailer, trailerAnswer, statementBlock, noBlock, blockAnswer}
 
-pub seal-told : (x : Res SealValue) {r : Seal} {t : Bool} → r ≡ sealAnswer x → r .ok ≡ t
+pub trailer-told : (x : Res TrailerValue) {r : Trailer} {t : Bool} → r ≡ trailerAnswer x → r .ok ≡ t
     → x ≡ flagged t (record { time = r .time; epochMarker = r .«epoch_marker»; signature = r .signature }) (r .end)
-seal-told x h e =
-    found-ok noSeal _ (λ r. r .ok) (λ r. record { time = r .time; epochMarker = r .«epoch_marker»; signature = r .signature }) (λ r. r .end)
+trailer-told x h e =
+    found-ok noTrailer _ (λ r. r .ok) (λ r. record { time = r .time; epochMarker = r .«epoch_marker»; signature = r .signature }) (λ r. r .end)
     refl (λ a f. refl) x h e
 
 pub block-bad : (p : ℕ) (x : Res BlockValue) {r : DecodedBlock} → r ≡ blockAnswer p x → r .ok ≡ false → x ≡ bad
 block-bad p x h e = found-none noBlock _ (λ r. r .ok) (λ a f. refl) x h e
 
 pub block-some : (p : ℕ) (x : Res BlockValue) {r : DecodedBlock} → r ≡ blockAnswer p x → r .ok ≡ true
-    → (b : BlockValue) × (x ≡ got b (r .end)) × (r ≡ record { ok = true; block = blockOf p b; end = r .end })
+    → (b : BlockValue) × (x ≡ got b (r .end)) × (r ≡ record { ok = true; block = statementBlock p b; end = r .end })
 block-some p x h e = found-some noBlock _ (λ r. r .ok) refl (λ r. r .end) (λ a f. refl) x h e

@@ -7,13 +7,13 @@ use lib.ListN.{length, getD}
 use Rattle.laws.specs.Parse.{got, many}
 use Rattle.laws.proofs.Parses.{then-found, got-value}
 use Rattle.bincode.specs.Bincode.{vec}
-use Rattle.bincode.specs.Cursors.{next, after}
+use Rattle.bincode.specs.Cursors.{nextElement, after}
 use Rattle.bincode.proofs.Rules.{vec-run}
 use Rattle.bincode.proofs.Cursors.{step-at}
 use Rattle.types.specs.declared.BlockReference.{BlockReference}
 use Rattle.types.specs.Records.{reference, statement, StatementValue, block, BlockValue}
 use Rattle.types.proofs.References.{reference-width, references-listed, include-at}
-use Rattle.blocks.specs.Answers.{seal, blockOf}
+use Rattle.blocks.specs.Answers.{trailer, statementBlock}
 use Rattle.blocks.proofs.Places.{whole, block-upto}
 
 -- the elements of both lists stand in a row at the places that the decoder answers
@@ -29,7 +29,7 @@ runs s p {b} {e} h =
     let r = then-found (reference s p) h in
     let is = then-found (vec reference s (r .1)) (r .3) in
     let ss = then-found (vec statement s (is .1)) (is .3) in
-    let v = then-found (seal s (ss .1)) (sym (block-upto s p (r .2) (is .2) (ss .2)) ∙ h) in
+    let v = then-found (trailer s (ss .1)) (sym (block-upto s p (r .2) (is .2) (ss .2)) ∙ h) in
     let value : whole (r .0) (is .0) (ss .0) (v .0) ≡ b = got-value (v .3) in
     let these : is .0 ≡ b .includes = ap (λ (v : BlockValue). v .includes) value in
     let those : ss .0 ≡ b .statements = ap (λ (v : BlockValue). v .statements) value in
@@ -50,10 +50,10 @@ module _ (s : List ℕ) (p : ℕ) {b : BlockValue} {e : ℕ} (h : block s p ≡ 
   block-include d l = include-at s i (length (b .includes)) (p + 64) (runs s p h .includes) d l
 
   pub block-include-step : (d : BlockReference) → i < length (b .includes)
-      → (q : ℕ) × (next reference s (after reference s i (blockOf p b .includes)) ≡ got (getD (b .includes) i d) q)
-  block-include-step d l = step-at reference s i (blockOf p b .includes) (runs s p h .includes) d l
+      → (q : ℕ) × (nextElement reference s (after reference s i (statementBlock p b .includes)) ≡ got (getD (b .includes) i d) q)
+  block-include-step d l = step-at reference s i (statementBlock p b .includes) (runs s p h .includes) d l
 
   -- the i-th statement
   pub block-statement-step : (d : StatementValue) → i < length (b .statements)
-      → (q : ℕ) × (next statement s (after statement s i (blockOf p b .statements)) ≡ got (getD (b .statements) i d) q)
-  block-statement-step d l = step-at statement s i (blockOf p b .statements) (runs s p h .statements) d l
+      → (q : ℕ) × (nextElement statement s (after statement s i (statementBlock p b .statements)) ≡ got (getD (b .statements) i d) q)
+  block-statement-step d l = step-at statement s i (statementBlock p b .statements) (runs s p h .statements) d l

@@ -10,12 +10,12 @@ use Rattle.crypto.specs.Records.{signature}
 use Rattle.types.specs.Records.{BlockValue}
 use Rattle.types.specs.Answers.{zeroReference}
 use Rattle.blocks.specs.declared.TimestampNs.{TimestampNs}
-use Rattle.blocks.specs.declared.Seal.{Seal}
+use Rattle.blocks.specs.declared.Trailer.{Trailer}
 use Rattle.blocks.specs.declared.StatementBlock.{StatementBlock}
 use Rattle.blocks.specs.declared.DecodedBlock.{DecodedBlock}
 
-abbrev pub blockOf : ℕ → BlockValue → StatementBlock
-blockOf p b =
+abbrev pub statementBlock : ℕ → BlockValue → StatementBlock
+statementBlock p b =
     record {
       reference = b .reference;
       includes = record { at = p + 64; left = length (b .includes) };
@@ -43,26 +43,26 @@ noBlock =
     }
 
 abbrev pub blockAnswer : ℕ → Res BlockValue → DecodedBlock
-blockAnswer p = answer noBlock (λ b e. record { ok = true; block = blockOf p b; end = e })
+blockAnswer p = answer noBlock (λ b e. record { ok = true; block = statementBlock p b; end = e })
 
 -- what stands behind the statements, which the decoder reads by itself: creation time, epoch marker and signature
-pub record SealValue : Type 0 where
+pub record TrailerValue : Type 0 where
   pub time : TimestampNs
   pub epochMarker : Bool
   pub signature : SignatureBytes
 
-unfoldable pub seal : Parser SealValue
-seal s p =
+unfoldable pub trailer : Parser TrailerValue
+trailer s p =
     then (number 8 s p) (λ low e₁.
     then (number 8 s e₁) (λ high e₂.
     then (bool s e₂) (λ m e₃.
     then (signature s e₃) (λ sig e₄.
     got (record { time = record { low = low; high = high }; epochMarker = m; signature = sig }) e₄))))
 
-abbrev pub noSeal : Seal
-noSeal =
+abbrev pub noTrailer : Trailer
+noTrailer =
     record { ok = false; time = record { low = 0; high = 0 }; «epoch_marker» = false; signature = record { 0 = replicate 64 0 }; end = 0 }
 
-abbrev pub sealAnswer : Res SealValue → Seal
-sealAnswer =
-    answer noSeal (λ v e. record { ok = true; time = v .time; «epoch_marker» = v .epochMarker; signature = v .signature; end = e })
+abbrev pub trailerAnswer : Res TrailerValue → Trailer
+trailerAnswer =
+    answer noTrailer (λ v e. record { ok = true; time = v .time; «epoch_marker» = v .epochMarker; signature = v .signature; end = e })

@@ -1,3 +1,6 @@
+// Ported from types.rs and data.rs of mahi-mahi-consensus, Copyright (c) Mysten Labs, Inc., Apache-2.0.
+// Changed: written anew in Rattle, with contracts. NOTICE says what was carried across and what was changed.
+
 // Blocks (types.rs) and their decoder. It takes any place and any bytes, and answers the block that
 // stands there and the place behind it, or that there is none. The digest is not recomputed.
 use bincode::Cursor;
@@ -9,7 +12,7 @@ use crypto::SignatureBytes;
 use types::BlockReference;
 ghost use mathlib.Core.Path.{_≡_};
 ghost use Rattle.types.specs.Records.{block};
-ghost use Rattle.blocks.specs.Answers.{seal, noSeal, sealAnswer, noBlock, blockAnswer};
+ghost use Rattle.blocks.specs.Answers.{trailer, noTrailer, trailerAnswer, noBlock, blockAnswer};
 
 // 128 bits, in two halves.
 pub struct TimestampNs {
@@ -34,7 +37,7 @@ pub struct DecodedBlock {
 }
 
 // What stands behind the statements.
-struct Seal {
+struct Trailer {
     ok: bool,
     time: TimestampNs,
     epoch_marker: bool,
@@ -59,10 +62,10 @@ fn no_block() -> DecodedBlock
     }
 }
 
-fn no_seal() -> Seal
-    ensures { λ r. ⌜ r ≡ noSeal ⌝ }
+fn no_trailer() -> Trailer
+    ensures { λ r. ⌜ r ≡ noTrailer ⌝ }
 {
-    Seal {
+    Trailer {
         ok: false,
         time: TimestampNs { low: 0, high: 0 },
         epoch_marker: false,
@@ -71,24 +74,24 @@ fn no_seal() -> Seal
     }
 }
 
-fn decode_seal(s: &[u8], at: usize) -> Seal
-    ensures { λ r. ⌜ r ≡ sealAnswer (seal (now (s .entry)) at) ⌝ }
+fn decode_trailer(s: &[u8], at: usize) -> Trailer
+    ensures { λ r. ⌜ r ≡ trailerAnswer (trailer (now (s .entry)) at) ⌝ }
 {
     let Number::Got(low, p) = bincode::decode_u64(s, at) else {
-        return no_seal();
+        return no_trailer();
     };
     let Number::Got(high, q) = bincode::decode_u64(s, p) else {
-        return no_seal();
+        return no_trailer();
     };
     let Flag::Got(epoch_marker, t) = bincode::decode_bool(s, q) else {
-        return no_seal();
+        return no_trailer();
     };
     let g = crypto::decode_signature(s, t);
     if !g.ok {
-        return no_seal();
+        return no_trailer();
     }
     let signature = g.signature;
-    Seal {
+    Trailer {
         ok: true,
         time: TimestampNs { low, high },
         epoch_marker,
@@ -110,7 +113,7 @@ pub fn decode_block(s: &[u8], at: usize) -> DecodedBlock
     let Part::Got(statements, count, q) = statements::decode_statements(s, p) else {
         return no_block();
     };
-    let g = decode_seal(s, q);
+    let g = decode_trailer(s, q);
     if !g.ok {
         return no_block();
     }

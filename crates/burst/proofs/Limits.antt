@@ -13,14 +13,14 @@ use Rattle.checksum.specs.Crc32.{digits, number, plus, times, power, generator,
 use Rattle.entry.specs.Entry.{entryBytes, checksumAt, lengthAt, tagAt, payloadAt}
 use Rattle.wal_position.specs.Region.{regionStart, nextRegion}
 use Rattle.wal_position.specs.Checks.{logCheck, unless}
-use Rattle.wal_reader.specs.Look.{judged, lookAt}
+use Rattle.wal_reader.specs.Look.{announced, lookAt}
 use Rattle.wal_reader.specs.Read.{Read, refused, readOf, readAt}
 use Rattle.burst.specs.Burst.{Burst}
 use Rattle.burst.specs.Limits.{Case, given, readsAs, five, cases}
 use Rattle.burst.proofs.Images.{write-burst}
 
 pub limits : map given cases ≡ map (λ (c : Case). c .stated) cases
-unfolding pick bytesAt written le ofLe ascii digits number plus times power generator reduce remainder messageBits complement crc32 entryBytes checksumAt lengthAt tagAt payloadAt regionStart nextRegion logCheck unless judged lookAt readOf readAt given readsAs five cases
+unfolding pick bytesAt written le ofLe ascii digits number plus times power generator reduce remainder messageBits complement crc32 entryBytes checksumAt lengthAt tagAt payloadAt regionStart nextRegion logCheck unless announced lookAt readOf readAt given readsAs five cases
 limits = refl
 
 -- ---- Five bytes of the payload `123456789`

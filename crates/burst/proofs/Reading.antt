@@ -15,7 +15,7 @@ use Rattle.wal_reader.specs.Look.{damaged, lookAt}
 use Rattle.wal_reader.specs.Read.{refused, readOf, readAt}
 use Rattle.wal_reader.specs.Answers.{entryOf, foundOf}
 use Rattle.wal_reader.specs.declared.WalEntry.{WalEntry}
-use Rattle.wal_reader.proofs.Looks.{judged-crc, length-payloadAt, look-judged}
+use Rattle.wal_reader.proofs.Looks.{announced-crc, length-payloadAt, look-announced}
 use Rattle.wal_reader.proofs.ReadAnswers.{found-read, checked-whole}
 use Rattle.wal.proofs.Walks.{Listed, whole-listed}
 use Rattle.wal.proofs.Prefixes.{checksum-same, length-same}
@@ -36,8 +36,8 @@ look-damaged k s bs used p a image l t bt h =
     let was : bytesAt s (p + 16) (length (a .payload)) ≡ a .payload = ap (bytesAt s (p + 16)) long ∙ sym (l .payload) in
     let is : payloadAt t p ≡ bytesAt t (p + 16) (length (a .payload)) =
     ap (λ (n : ℕ). bytesAt t (p + 16) (n - 16)) (sym len) ∙ ap (bytesAt t (p + 16)) (sym long) in
-    look-judged k t used p (omega (arith, l .in-region)) (omega (arith, l .in-used))
-    ∙ judged-crc t used (nextRegion k p) p (λ zero. omega arith) (omega arith) (omega (arith, l .in-region)) (omega (arith, l .in-used))
+    look-announced k t used p (omega (arith, l .in-region)) (omega (arith, l .in-used))
+    ∙ announced-crc t used (nextRegion k p) p (λ zero. omega arith) (omega arith) (omega (arith, l .in-region)) (omega (arith, l .in-used))
     (λ same.
     crc-differs (p + 16) (length (a .payload)) s t h bs bt (omega (arith, l .in-used))
     (ap crc32 was ∙ sym (l .checksum) ∙ sum ∙ same ∙ ap crc32 is))

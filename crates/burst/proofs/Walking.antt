@@ -20,7 +20,7 @@ use Rattle.wal.proofs.Walks.{Listed, list-listed, afterStep, walk-step}
 use Rattle.wal.proofs.Steps.{step-ahead, here, behind, step-way}
 use Rattle.wal.proofs.Prefixes.{go-same, step-same}
 use Rattle.committee.specs.Committee.{committeeCheck}
-use Rattle.replay.specs.Items.{Read}
+use Rattle.replay.specs.Items.{ReplayEntry}
 use Rattle.replay.specs.Recovery.{Lent, Recovery, scan, scanned, replayed, recover, refused, recovered}
 use Rattle.replay_log.proofs.Accepted.{replay-scanned, unless-recovered}
 use Rattle.cut.proofs.Recovering.{walk-is, recover-is}
@@ -140,11 +140,11 @@ module _ (k : ℕ) (t : List ℕ) (used : ℕ) (sound : Sound k used (length t))
       recover-is k t used sound size own lent
       ∙ ap (λ (w : Walk). unless (committeeCheck size own) (λ m. refused m 0) (replayed size own lent w)) is
 
-  recovery-passed : (l : List Read) → committeeCheck size own ≡ 0 → scan size own lent [] before ≡ scanned l → recover k t used size own lent ≡ refused n p
+  recovery-passed : (l : List ReplayEntry) → committeeCheck size own ≡ 0 → scan size own lent [] before ≡ scanned l → recover k t used size own lent ≡ refused n p
   unfolding replays replayed
   recovery-passed l committee passes = recovery ∙ unless-passed (λ m. refused m 0) replays (committeeCheck size own) committee ∙ rw passes
 
-  recovery-never : (word : Stop) (end : ℕ) (l : List Read) → recover k t used size own lent ≡ recovered word end l → ⊥
+  recovery-never : (word : Stop) (end : ℕ) (l : List ReplayEntry) → recover k t used size own lent ≡ recovered word end l → ⊥
   unfolding replays
   recovery-never word end l accepted =
       let replay = unless-recovered (committeeCheck size own) replays (sym recovery ∙ accepted) .1 in

@@ -15,7 +15,7 @@ use Rattle.wal.specs.Walk.{Stop, Ending, walk}
 use Rattle.wal.specs.Answers.{walkAnswer}
 use Rattle.wal.specs.declared.Walked.the-variants.{Refused as Walked·Refused}
 use Rattle.committee.specs.Committee.{committeeCheck}
-use Rattle.replay.specs.Items.{Read}
+use Rattle.replay.specs.Items.{ReplayEntry}
 use Rattle.replay.specs.Recovery.{Lent, scan, scanned, replayed, recover, refused, recovered}
 
 -- the byte at i, which is 0 past the end, is not the same in s and t
@@ -57,10 +57,10 @@ pub record Detected (k : ℕ) (t : List ℕ) (used : ℕ) (before : List Entry) 
       ≡ unless (committeeCheck size own) (λ n. refused n 0)
       (replayed size own lent (record { entries = before; ending = Ending.refused 7 (a .start) }))
   -- so 7 at a's start, where 18 does not refuse, nor an entry before
-  pub seven : (size own : ℕ) (lent : Lent) (l : List Read) → committeeCheck size own ≡ 0 → scan size own lent [] before ≡ scanned l
+  pub seven : (size own : ℕ) (lent : Lent) (l : List ReplayEntry) → committeeCheck size own ≡ 0 → scan size own lent [] before ≡ scanned l
       → recover k t used size own lent ≡ refused 7 (a .start)
   -- and no recovery accepts t, whatever the committee and the tables
-  pub never : (size own : ℕ) (lent : Lent) (word : Stop) (end : ℕ) (l : List Read) → recover k t used size own lent ≡ recovered word end l → ⊥
+  pub never : (size own : ℕ) (lent : Lent) (word : Stop) (end : ℕ) (l : List ReplayEntry) → recover k t used size own lent ≡ recovered word end l → ⊥
 
 -- For every image whose walk lists the entry a, however that walk ends, and every burst in a's payload.
 abbrev pub WalkDetects : ℕ → Type 0

@@ -14,7 +14,7 @@ use Rattle.laws.specs.Pick.{pick}
 use Rattle.laws.proofs.Tests.{leb-cases, eqb-cases}
 use Rattle.laws.proofs.Written.{length-bytesAt}
 use Rattle.rows.specs.Rows.{rowsOf, rowAt, flat, key, Ascending}
-use Rattle.tables.specs.Tables.{Eights}
+use Rattle.tables.specs.Tables.{EightWords}
 use Rattle.rows.proofs.Ascending.{ascending-back, ascending-replaced}
 use Rattle.rows.proofs.Rows.{length-rowsOf, length-rowAt, first-rowAt, rowsOf-same, rowsOf-put, getD-rowsOf, flat-rowsOf, rowsFrom, rowsFrom-zero, rowsFrom-cons, rowsFrom-add}
 use Rattle.store.specs.Store.{loaded}
@@ -223,7 +223,7 @@ module _ (t : ℕ) where
         (unloaded-append (rowsOf i w) (rowsFrom w i count) (h .so-far)
         (subst Unloaded (sym rest)
         (unloaded-past (rowAt w i ∷ rowsFrom w (i + 1) count)
-        (past t (rowAt w i) (rowsFrom w (i + 1) count) (omega (arith, first-rowAt w i)) (subst Eights rest (rowsFrom-eights w i count l (h .within))) up))))
+        (past t (rowAt w i) (rowsFrom w (i + 1) count) (omega (arith, first-rowAt w i)) (subst EightWords rest (rowsFrom-eights w i count l (h .within))) up))))
 
     pub clearing-done : count ≤ i → Unloaded (rowsOf count w)
     clearing-done all = let e : i ≡ count = omega (arith, h .within) in subst (λ (k : ℕ). Unloaded (rowsOf k w)) e (h .so-far)

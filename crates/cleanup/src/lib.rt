@@ -1,3 +1,6 @@
+// Ported from block_store.rs of mahi-mahi-consensus, Copyright (c) Mysten Labs, Inc., Apache-2.0.
+// Changed: written anew in Rattle, with contracts. NOTICE says what was carried across and what was changed.
+
 // Cleanup (block_store.rs, cleanup and unload_below_round): the blocks of old rounds are unloaded.
 ghost use mathlib.Core.Path.{_≡_};
 ghost use mathlib.Core.List.{map};

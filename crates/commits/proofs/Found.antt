@@ -20,7 +20,7 @@ use Rattle.types.specs.Records.{reference, block, BlockValue}
 use Rattle.types.proofs.References.{reference-width}
 use Rattle.blocks.specs.declared.StatementBlock.{StatementBlock}
 use Rattle.blocks.specs.declared.DecodedBlock.{DecodedBlock}
-use Rattle.blocks.specs.Answers.{blockOf, blockAnswer}
+use Rattle.blocks.specs.Answers.{statementBlock, blockAnswer}
 use Rattle.blocks.proofs.Found.{block-some}
 use Rattle.commits.specs.declared.DecodedOwnBlock.{DecodedOwnBlock}
 use Rattle.commits.specs.declared.DecodedCommitData.{DecodedCommitData}
@@ -44,7 +44,7 @@ unfolding answer
 own-got s p {n} {q} h {r} a t =
     let g = block-some q (block s q) a t in
     ap (λ (d : DecodedBlock). own n (d .block) (r .end)) (g .2)
-    ∙ ap (λ (k : ℕ). own n (blockOf k (g .0)) (r .end)) (number-found 8 s p h .end)
+    ∙ ap (λ (k : ℕ). own n (statementBlock k (g .0)) (r .end)) (number-found 8 s p h .end)
     ∙ ap (ownBlockAnswer p) (sym (own-value s p h (g .1)))
 
 -- an element of a commit's list, by its leader and the place of its sub-dag

@@ -7,7 +7,7 @@ use Rattle.laws.specs.Parse.{Res, answer}
 use Rattle.bincode.specs.declared.Cursor.{Cursor}
 use Rattle.bincode.specs.Cursors.{past}
 use Rattle.types.specs.Answers.{zeroReference}
-use Rattle.blocks.specs.Answers.{blockOf, noBlock}
+use Rattle.blocks.specs.Answers.{statementBlock, noBlock}
 use Rattle.commits.specs.declared.OwnBlockData.{OwnBlockData}
 use Rattle.commits.specs.declared.DecodedOwnBlock.{DecodedOwnBlock}
 use Rattle.commits.specs.declared.CommitData.{CommitData}
@@ -19,7 +19,7 @@ use Rattle.commits.specs.Records.{OwnBlockValue, CommitValue, CommitsVal
 
 -- the block of an own block at p stands behind the 8 bytes of its next entry
 abbrev pub ownBlockOf : ℕ → OwnBlockValue → OwnBlockData
-ownBlockOf p o = record { «next_entry» = record { 0 = o .nextEntry }; block = blockOf (p + 8) (o .block) }
+ownBlockOf p o = record { «next_entry» = record { 0 = o .nextEntry }; block = statementBlock (p + 8) (o .block) }
 
 abbrev pub noOwnBlock : DecodedOwnBlock
 noOwnBlock = record { ok = false; «own_block» = record { «next_entry» = record { 0 = 0 }; block = noBlock .block }; end = 0 }

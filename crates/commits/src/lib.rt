@@ -1,3 +1,6 @@
+// Ported from block_store.rs and linearizer.rs of mahi-mahi-consensus, Copyright (c) Mysten Labs, Inc., Apache-2.0.
+// Changed: written anew in Rattle, with contracts. NOTICE says what was carried across and what was changed.
+
 // The payloads of log entries (block_store.rs, core.rs): own blocks, lists of statements, commits.
 // Each decoder takes any place and any bytes, and answers the record that stands there and the
 // place behind it, or that there is none.
@@ -15,7 +18,7 @@ ghost use mathlib.Core.Path.{_≡_};
 ghost use Rattle.laws.specs.Parse.{many};
 ghost use Rattle.bincode.specs.Bincode.{vec};
 ghost use Rattle.bincode.specs.Answers.{endAnswer, partAnswer};
-ghost use Rattle.bincode.specs.Cursors.{next};
+ghost use Rattle.bincode.specs.Cursors.{nextElement};
 ghost use Rattle.types.specs.Records.{payload};
 ghost use Rattle.commits.specs.Records.{ownBlock, commitData, commit};
 ghost use Rattle.commits.specs.Answers.{noOwnBlock, ownBlockAnswer, noCommitData, commitDataAnswer, commitAnswer, noNextCommit, nextCommitAnswer};
@@ -209,7 +212,7 @@ fn no_next_commit() -> NextCommit
 
 // A step of a pass over a commit's list.
 pub fn next_commit(s: &[u8], c: Cursor) -> NextCommit
-    ensures { λ r. ⌜ r ≡ nextCommitAnswer c (next commitData (now (s .entry)) c) ⌝ }
+    ensures { λ r. ⌜ r ≡ nextCommitAnswer c (nextElement commitData (now (s .entry)) c) ⌝ }
 {
     let at = c.at;
     let left = c.left;

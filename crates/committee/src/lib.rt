@@ -1,3 +1,6 @@
+// Ported from committee.rs of mahi-mahi-consensus, Copyright (c) Mysten Labs, Inc., Apache-2.0.
+// Changed: written anew in Rattle, with contracts. NOTICE says what was carried across and what was changed.
+
 // The committee's size (committee.rs): all that the store needs of it.
 ghost use mathlib.Core.Path.{_≡_};
 ghost use Rattle.committee.specs.Committee.{committeeCheck};

@@ -1,3 +1,6 @@
+// Ported from crypto.rs of mahi-mahi-consensus, Copyright (c) Mysten Labs, Inc., Apache-2.0.
+// Changed: written anew in Rattle, with contracts. NOTICE says what was carried across and what was changed.
+
 // The digest and the signature of a block (crypto.rs): bytes of a fixed number, by value, and their
 // decoders. Each decoder takes any place and any bytes.
 use bincode::Part;

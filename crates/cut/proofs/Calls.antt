@@ -6,15 +6,15 @@ use Rattle.wal_writer.specs.Append.{Placed, accepted, refused, place}
 use Rattle.wal_writer.specs.Answers.{appendedOf, writerAfter}
 use Rattle.wal_writer.specs.declared.WalWriter.{WalWriter}
 use Rattle.cut.specs.PlainLog.{Append}
-use Rattle.cut.specs.Cut.{Store, usedAfter, answerOf, next, writerOf, Calls}
+use Rattle.cut.specs.Cut.{LogImage, usedAfter, answerOf, afterAppend, writerOf, Calls}
 
 left : (w : WalWriter) (n : ℕ) (x : Placed) → writerAfter w (appendedOf (w .exponent) n x) ≡ record { exponent = w .exponent; used = usedAfter x (w .used) n }
 unfolding writerAfter appendedOf usedAfter
 left w n (accepted start) = refl
 left w n (refused m) = refl
 
-pub calls : (k : ℕ) (st : Store) (a : Append) → Calls k st a
-unfolding next answerOf
+pub calls : (k : ℕ) (st : LogImage) (a : Append) → Calls k st a
+unfolding afterAppend answerOf
 calls k st a =
     record {
       answer = refl;

@@ -3,7 +3,7 @@ use Prim.Native.Nat.{_^_, _≤_}
 use native.Mathlib.Omega.{arith}
 use lib.ListN.{length}
 use Rattle.cut.specs.PlainLog.{noEntries, logBytes}
-use Rattle.cut.specs.Cut.{Store, after, finalLog, Demand-3}
+use Rattle.cut.specs.Cut.{LogImage, after, finalLog, Demand-3}
 use Rattle.cut.proofs.Calls.{calls}
 use Rattle.cut.proofs.Layouts.{LaidLog, laid-empty, laid-log, length-bytes}
 use Rattle.cut.proofs.Appending.{Holding, empty, run, same-seen}
@@ -14,7 +14,7 @@ use Rattle.cut.proofs.Resuming.{restores}
 pub demand-3 : Demand-3
 unfolding logBytes
 demand-3 k least most image appends tags =
-    let st : Store = record { used = 0; image = image } in
+    let st : LogImage = record { used = 0; image = image } in
     let held : Holding (length image) (finalLog k image appends) (after k st appends) =
     run k least most (length image) noEntries st appends (empty image) in
     let laid : LaidLog k (finalLog k image appends) = laid-log k (length image) noEntries appends tags (laid-empty k) in

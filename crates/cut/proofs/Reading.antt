@@ -110,21 +110,21 @@ module _ (k : ℕ) (most : k ≤ 28) (image bytes : List ℕ) (c : ℕ) (same : 
   over-zeros : a .start ≡ nextRegion k e → nextRegion k e < e + (length (a .payload) + 16) → e + 16 ≤ nextRegion k e → e + 16 ≤ c
       → moveAt k image c e e ≡ go (nextRegion k e)
   unfolding moveAt move pick
-  over-zeros beyond passes roomy long =
+  over-zeros beyond passes room long =
       let after : List ℕ = entryBytes (a .tag) (a .payload) ++ rest in
       let n : lengthAt image e ≡ 0 = length-padding image bytes c same e (a .start - e) after padding (omega arith) long in
       let sum : checksumAt image e ≡ 0 = checksum-padding image bytes c same e (a .start - e) after padding (omega arith) long in
-      rw (look-blank k image c e roomy long n sum, ne-eqb e (regionStart k e) (inside passes))
+      rw (look-blank k image c e room long n sum, ne-eqb e (regionStart k e) (inside passes))
 
   -- less by rule 2; and rule 3 stops where c cuts the header
   skips : e < c → a .start ≡ nextRegion k e → nextRegion k e < e + (length (a .payload) + 16) → Arrival k image c e a
   unfolding endOf moveAt move
   skips h beyond passes =
       elim (leb-cases (e + 16) (nextRegion k e)) [
-        | inl roomy ↦
+        | inl room ↦
             elim (leb-cases (e + 16) c) [
-              | inl long ↦ over beyond (over-zeros beyond passes (roomy .1) (long .1))
-              | inr cuts ↦ torn-before (omega arith) (ap (move k c e e) (look-no-header k image c e h (roomy .1) (cuts .1)))
+              | inl long ↦ over beyond (over-zeros beyond passes (room .1) (long .1))
+              | inr cuts ↦ torn-before (omega arith) (ap (move k c e e) (look-no-header k image c e h (room .1) (cuts .1)))
             ]
         | inr full ↦ over beyond (ap (move k c e e) (look-region-full k image c e h (full .1)))
       ]

@@ -8,7 +8,7 @@ use lib.Seq.{append-snoc, take-take, take-at}
 use Rattle.wal_reader.specs.Entries.{Entry, endOf}
 use Rattle.wal_writer.specs.Append.{accepted}
 use Rattle.cut.specs.PlainLog.{Log, plainAnswer, joined, plainNext, plainLog, bytesFrom, logBytes}
-use Rattle.cut.specs.Cut.{Store, Compared, after, plainSeen, endingBy, lastEnd, again, Holds, kept, lost, resumeAt, Restores}
+use Rattle.cut.specs.Cut.{LogImage, Compared, after, plainSeen, endingBy, lastEnd, again, Holds, kept, lost, resumeAt, Restores}
 use Rattle.cut.proofs.PlainLogs.{plain-accepts}
 use Rattle.cut.proofs.Layouts.{Behind, Laid, laid-none, laid-next, last-ahead, last-append, laid-left, laid-right, bytes-append, length-bytes, LaidLog}
 use Rattle.cut.proofs.Kept.{kept-by}
@@ -106,7 +106,7 @@ module _ (k : ℕ) (log : Log) (laid : LaidLog k log) (below : log .end ≤ 2 ^ 
 
     pub restores : Restores k log c found
     restores =
-        let st : Store = record { used = resumeAt log c; image = found } in
+        let st : LogImage = record { used = resumeAt log c; image = found } in
         let held : Holding (length found) log (after k st (map again (lost log c))) =
         rw whole at (run k least most (length found) before st (map again (lost log c)) resumed) in
         record {

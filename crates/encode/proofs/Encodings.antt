@@ -31,16 +31,16 @@ module _ {out : List ℕ} {at : ℕ} {v : List ℕ} {there : Bool} (test : Teste
 
   pub fits : there ≡ true → {after : List ℕ} {e : ℕ} → Put out at v after e → Encodes out at (some v) (End e) after
   unfolding answerAt encodedAt pick
-  fits t h = record { answers = rw (test .same ∙ t) (ap End (h .end)); leaves = rw (test .same ∙ t) (h .bytes) }
+  fits t h = record { answers = rw (test .same ∙ t) (ap End (h .end)); bytes = rw (test .same ∙ t) (h .bytes) }
 
   pub full : there ≡ false → Encodes out at (some v) NoRoom out
   unfolding answerAt encodedAt pick
-  full f = record { answers = rw (test .same ∙ f); leaves = rw (test .same ∙ f) }
+  full f = record { answers = rw (test .same ∙ f); bytes = rw (test .same ∙ f) }
 
 -- what is no record
 pub malformed : (out : List ℕ) (at : ℕ) → Encodes out at none Malformed out
 unfolding answerAt encodedAt
-malformed out at = record { answers = refl; leaves = refl }
+malformed out at = record { answers = refl; bytes = refl }
 
 -- what fits is written
 pub fitted : {out : List ℕ} {at : ℕ} {v : List ℕ} {r : Encoded} {after : List ℕ} → Encodes out at (some v) r after
@@ -48,7 +48,7 @@ pub fitted : {out : List ℕ} {at : ℕ} {v : List ℕ} {r : Encoded} {after : L
 unfolding answerAt encodedAt pick
 fitted {out} {at} {v} h room =
     let fits = le-leb (at + length v) (length out) room in
-    (rw fits at (h .answers), rw fits at (h .leaves))
+    (rw fits at (h .answers), rw fits at (h .bytes))
 
 -- a record that was encoded at the start of a buffer
 pub record AtStart (v : List ℕ) (r : Encoded) (after : List ℕ) : Type 0 where

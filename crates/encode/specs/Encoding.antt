@@ -23,4 +23,4 @@ encodedAt out at (some v) = pick (leb (at + length v) (length out)) (written out
 
 pub record Encodes (out : List ℕ) (at : ℕ) (v : Option (List ℕ)) (answer : Encoded) (after : List ℕ) : Type 0 where
   pub answers : answer ≡ answerAt out at v
-  pub leaves : after ≡ encodedAt out at v
+  pub bytes : after ≡ encodedAt out at v

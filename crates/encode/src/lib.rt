@@ -1,3 +1,6 @@
+// Ported from types.rs of mahi-mahi-consensus, Copyright (c) Mysten Labs, Inc., Apache-2.0.
+// Changed: written anew in Rattle, with contracts. NOTICE says what was carried across and what was changed.
+
 // Encoders of the records of fixed width and of statements, into bytes that a caller lends, from any
 // place on. Where the record does not fit, the bytes stay as they were.
 use types::BlockReference;

@@ -23,9 +23,9 @@ encoded-decodes {f = f} {layout = layout} r out at x v e after h =
     elim (leb-cases (at + length (layout x)) (length out)) [
       | inl y ↦
           let answers : End e ≡ End (at + length (layout x)) = rw (y .0) at (h .answers) in
-          let leaves : after ≡ written out at (layout x) = rw (y .0) at (h .leaves) in
+          let bytes : after ≡ written out at (layout x) = rw (y .0) at (h .bytes) in
           let end : e ≡ at + length (layout x) = cc in
-          rw (leaves, end) (written-decodes r out at x v (omega (arith, y .1)))
+          rw (bytes, end) (written-decodes r out at x v (omega (arith, y .1)))
       | inr m ↦
           let answers : End e ≡ NoRoom = rw (m .0) at (h .answers) in
           let z : _≡_ {A = ℕ} 0 1 = cc in

@@ -11,8 +11,8 @@ use Rattle.types.specs.Records.{reference, referenceBytes, statement, Statement
 use Rattle.encode_blocks.specs.declared.BlockFields.{BlockFields}
 use Rattle.encode_blocks.specs.Whole.{whole}
 
-abbrev pub blockOf : BlockFields → List BlockReference → List StatementValue → BlockValue
-blockOf b is ss =
+abbrev pub blockValue : BlockFields → List BlockReference → List StatementValue → BlockValue
+blockValue b is ss =
     record {
       reference = b .reference;
       includes = is;
@@ -27,7 +27,7 @@ blockOf b is ss =
 abbrev pub blockWith : BlockFields → Option (List BlockReference) → Option (List StatementValue) → Option BlockValue
 blockWith b none ss = none
 blockWith b (some is) none = none
-blockWith b (some is) (some ss) = some (blockOf b is ss)
+blockWith b (some is) (some ss) = some (blockValue b is ss)
 
 -- the block whose lists are those parsed, as many as the counts say
 abbrev pub blockFrom : BlockFields → List ℕ → List ℕ → Option BlockValue

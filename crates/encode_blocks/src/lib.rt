@@ -1,3 +1,6 @@
+// Ported from types.rs and data.rs of mahi-mahi-consensus, Copyright (c) Mysten Labs, Inc., Apache-2.0.
+// Changed: written anew in Rattle, with contracts. NOTICE says what was carried across and what was changed.
+
 // Encoders of blocks and of payloads, into bytes that a caller lends, from any place on. Their lists
 // are lent too, as encoded elements in a row beside their number: each is decoded before anything is
 // written, so that what is written is a record. Where it is none, or does not fit, the bytes stay as

@@ -1,3 +1,6 @@
+// Ported from block_store.rs and linearizer.rs of mahi-mahi-consensus, Copyright (c) Mysten Labs, Inc., Apache-2.0.
+// Changed: written anew in Rattle, with contracts. NOTICE says what was carried across and what was changed.
+
 // Encoders of own blocks and of commits, into bytes that a caller lends, from any place on. Blocks
 // and lists are lent too, encoded: each is decoded before anything is written, so that what is
 // written is a record. Where it is none, or does not fit, the bytes stay as they were.

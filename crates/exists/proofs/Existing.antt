@@ -12,8 +12,8 @@ use Rattle.laws.specs.Pick.{pick}
 use Rattle.laws.proofs.Tests.{leb-cases, eqb-cases}
 use Rattle.rows.specs.declared.Order.the-variants.{Below, Above}
 use Rattle.rows.specs.declared.Place.the-variants.{At, Gap}
-use Rattle.rows.specs.Rows.{rowsOf, key, choose, compared, Ascending, below, present, placeOf}
-use Rattle.tables.specs.Tables.{Eights}
+use Rattle.rows.specs.Rows.{rowsOf, key, choose, compared, Ascending, below, hasKey, placeOf}
+use Rattle.tables.specs.Tables.{EightWords}
 use Rattle.rows.proofs.Lexicographic.{order-cases, not-above, first-below, first-above, first-same, below-of}
 use Rattle.rows.proofs.Ascending.{leads-trans, leads-none}
 use Rattle.rows.proofs.Places.{below-within, at-place, gap-place}
@@ -41,7 +41,7 @@ module _ (round : ℕ) where
 
   -- A key of the round is not below the lowest: where its authority is 0, the row alone would not be found at its place.
   not-below : (r : List ℕ) → length r ≡ 8 → getD r 0 0 ≡ round → compared (key r) first ≡ Below → ⊥
-  unfolding key existsAt pick below present choose
+  unfolding key existsAt pick below hasKey choose
   not-below [] h e l = absurd (omega arith)
   not-below (x ∷ []) h e l = absurd (omega arith)
   not-below (x ∷ y ∷ r) h e l =
@@ -70,15 +70,15 @@ module _ (round : ℕ) where
 
   -- where the first row is above the lowest key, it decides
   at-front : (r : List ℕ) (rows : List (List ℕ)) → Ascending (r ∷ rows) → compared (key r) first ≡ Above
-      → pick (present first (r ∷ rows)) true (firstIs (drop (below first (r ∷ rows)) (r ∷ rows))) ≡ eqb (getD r 0 0) round
-  unfolding below present choose pick
+      → pick (hasKey first (r ∷ rows)) true (firstIs (drop (below first (r ∷ rows)) (r ∷ rows))) ≡ eqb (getD r 0 0) round
+  unfolding below hasKey choose pick
   at-front r rows a g =
       let none = leads-none first rows (leads-trans first (key r) rows (below-of (key r) first g) (a .0)) (a .1) in
       rw (g, none .0, none .1) refl
 
-  there-place : (rows : List (List ℕ)) → Eights rows → Ascending rows
-      → roundThere round rows ≡ pick (present first rows) true (firstIs (drop (below first rows) rows))
-  unfolding roundThere below present choose pick
+  there-place : (rows : List (List ℕ)) → EightWords rows → Ascending rows
+      → roundThere round rows ≡ pick (hasKey first rows) true (firstIs (drop (below first rows) rows))
+  unfolding roundThere below hasKey choose pick
   there-place [] e a = refl
   there-place (r ∷ rows) e a =
       ⊎-elim
@@ -97,7 +97,7 @@ module _ (round : ℕ) where
       ⊎-elim
       (λ b. absurd (not-below r (e .0) same b))
       (⊎-elim
-      (λ q. let found : present first (r ∷ rows) ≡ true = rw q in rw (here, found))
+      (λ q. let found : hasKey first (r ∷ rows) ≡ true = rw q in rw (here, found))
       (λ g. rw here (sym here ∙ sym (at-front r rows a g))))
       (order-cases (compared (key r) first)))
       (leb-cases (suc round) (getD r 0 0)))

@@ -7,7 +7,7 @@ use lib.ListN.{length, getD}
 use Rattle.laws.specs.Pick.{pick}
 use Rattle.wal_position.specs.Checks.{unless}
 use Rattle.types.specs.declared.BlockReference.{BlockReference}
-use Rattle.rows.specs.Rows.{present}
+use Rattle.rows.specs.Rows.{hasKey}
 use Rattle.index.specs.Keys.{keyWords, existsAt}
 use Rattle.store.specs.declared.BlockStore.{BlockStore}
 use Rattle.store.specs.Store.{indexed, callCheck}
@@ -34,7 +34,7 @@ allThere authors round rows = pick (roundThere round rows) (allExist authors rou
 -- the calls: k, the image and used, the store and its index, and the arguments
 abbrev pub blockExists : ℕ → List ℕ → ℕ → BlockStore → List ℕ → BlockReference → Answer
 blockExists k image used store index reference =
-    answered (callCheck k used (length image) store index) (present (keyWords reference) (indexed store index))
+    answered (callCheck k used (length image) store index) (hasKey (keyWords reference) (indexed store index))
 
 abbrev pub blockExistsAt : ℕ → List ℕ → ℕ → BlockStore → List ℕ → ℕ → ℕ → Answer
 blockExistsAt k image used store index authority round =

@@ -11,8 +11,8 @@ use borrow.Author.Tests.{le-leb, lt-leb, ne-eqb, lt-ltb, le-ltb}
 use Rattle.laws.specs.Pick.{pick}
 use Rattle.laws.proofs.Tests.{leb-cases, eqb-cases}
 use Rattle.rows.specs.declared.Order.the-variants.{Below}
-use Rattle.rows.specs.Rows.{key, choose, compared, Leads, Ascending, below, present}
-use Rattle.tables.specs.Tables.{Eights}
+use Rattle.rows.specs.Rows.{key, choose, compared, Leads, Ascending, below, hasKey}
+use Rattle.tables.specs.Tables.{EightWords}
 use Rattle.rows.proofs.Lexicographic.{order-cases, first-below, first-above, first-same, not-above, not-equal, compared-equal, below-of}
 use Rattle.rows.proofs.Ascending.{leads-none, leads-trans}
 use Rattle.filters.specs.Filters.{keep}
@@ -24,8 +24,8 @@ use Rattle.filters.proofs.Keeping.{keep-yes, keep-no}
 abbrev keyed : List ℕ → List ℕ → Bool
 keyed k r = choose (compared (key r) k) false true false
 
-pub absent-none : (k : List ℕ) (rows : List (List ℕ)) → present k rows ≡ false → keep (keyed k) rows ≡ []
-unfolding keep present choose pick
+pub absent-none : (k : List ℕ) (rows : List (List ℕ)) → hasKey k rows ≡ false → keep (keyed k) rows ≡ []
+unfolding keep hasKey choose pick
 absent-none k [] p = refl
 absent-none k (r ∷ rows) p =
     ⊎-elim
@@ -33,9 +33,9 @@ absent-none k (r ∷ rows) p =
     (⊎-elim (λ e. absurd (true≢false (rw e at p))) (λ a. rw a (absent-none k rows (rw a at p))))
     (order-cases (compared (key r) k))
 
-pub present-one : (k : List ℕ) (rows : List (List ℕ)) → Ascending rows → present k rows ≡ true
+pub present-one : (k : List ℕ) (rows : List (List ℕ)) → Ascending rows → hasKey k rows ≡ true
     → keep (keyed k) rows ≡ drop (below k rows) (take (suc (below k rows)) rows)
-unfolding keep present below choose pick
+unfolding keep hasKey below choose pick
 present-one k [] a p = absurd (true≢false (sym p))
 present-one k (r ∷ rows) a p =
     ⊎-elim
@@ -177,13 +177,13 @@ module _ (round : ℕ) where
       (⊎-elim (λ q. rw q) (λ g. rw g))
       (order-cases (compared (key r) (roundKey round)))
 
-  pub lower-none : (p : ℕ) (rows : List (List ℕ)) → Eights rows → round ≤ p → AtLeast p rows → below (roundKey round) rows ≡ 0
+  pub lower-none : (p : ℕ) (rows : List (List ℕ)) → EightWords rows → round ≤ p → AtLeast p rows → below (roundKey round) rows ≡ 0
   unfolding below
   lower-none p [] e h l = refl
   lower-none p (r ∷ rows) e h l = lower-skip r rows (e .0) (omega (arith, l .0)) ∙ lower-none p rows (e .1) h (l .1)
 
 -- the first row above a round is the first whose key is not below that of the next round
-pub upTo-below : (round : ℕ) (rows : List (List ℕ)) → Eights rows → upTo round rows ≡ below (roundKey (suc round)) rows
+pub upTo-below : (round : ℕ) (rows : List (List ℕ)) → EightWords rows → upTo round rows ≡ below (roundKey (suc round)) rows
 unfolding upTo below pick
 upTo-below round [] e = refl
 upTo-below round (r ∷ rows) e =
@@ -222,7 +222,7 @@ above-segment after (r ∷ rows) l =
     (leb-cases (getD r 0 0) after)
 
 -- the rows of a round
-pub round-segment : (round : ℕ) (rows : List (List ℕ)) → Rising rows → Eights rows
+pub round-segment : (round : ℕ) (rows : List (List ℕ)) → Rising rows → EightWords rows
     → keep (λ r. eqb (getD r 0 0) round) rows ≡ drop (below (roundKey round) rows) (take (upTo round rows) rows)
 unfolding keep upTo below
 round-segment round [] l e = refl

@@ -1,3 +1,6 @@
+// Ported from block_store.rs of mahi-mahi-consensus, Copyright (c) Mysten Labs, Inc., Apache-2.0.
+// Changed: written anew in Rattle, with contracts. NOTICE says what was carried across and what was changed.
+
 // Where the rows that a lookup asks for stand among the ascending rows of the index (block_store.rs, the ranges
 // of BlockStoreInner's map).
 ghost use mathlib.Core.Path.{_≡_};

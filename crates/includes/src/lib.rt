@@ -1,3 +1,6 @@
+// Ported from types.rs of mahi-mahi-consensus, Copyright (c) Mysten Labs, Inc., Apache-2.0.
+// Changed: written anew in Rattle, with contracts. NOTICE says what was carried across and what was changed.
+
 // References compared, and the includes of a block's bytes (types.rs).
 ghost use mathlib.Core.Path.{_≡_};
 ghost use Rattle.includes.specs.References.{sameBytes, same, among};

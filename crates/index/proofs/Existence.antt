@@ -15,8 +15,8 @@ use Rattle.laws.proofs.Tests.{leb-cases, eqb-cases}
 use Rattle.laws.proofs.Written.{getD-bytesAt}
 use Rattle.rows.specs.declared.Order.the-variants.{Below, Above}
 use Rattle.rows.specs.declared.Place.the-variants.{At, Gap}
-use Rattle.rows.specs.Rows.{rowsOf, rowAt, key, choose, compared, Leads, Ascending, below, present, placeOf}
-use Rattle.tables.specs.Tables.{Eights}
+use Rattle.rows.specs.Rows.{rowsOf, rowAt, key, choose, compared, Leads, Ascending, below, hasKey, placeOf}
+use Rattle.tables.specs.Tables.{EightWords}
 use Rattle.rows.proofs.Lexicographic.{order-cases, not-equal, not-above, above-not-equal, first-above, first-same, compared-self, compared-equal, below-of, below-trans, irreflexive}
 use Rattle.rows.proofs.Ascending.{leads-trans, leads-none}
 use Rattle.rows.proofs.Places.{below-within, at-place, gap-place}
@@ -106,7 +106,7 @@ module _ (authority round : ℕ) where
       go false false x = refl
 
   -- a row behind one that begins above
-  none-behind : (r : List ℕ) (rows : List (List ℕ)) → 2 ≤ length r → Leads (key r) rows → Ascending rows → Eights rows
+  none-behind : (r : List ℕ) (rows : List (List ℕ)) → 2 ≤ length r → Leads (key r) rows → Ascending rows → EightWords rows
       → compared wanted (take 2 r) ≡ Below → existsAt authority round rows ≡ false
   unfolding existsAt pick choose
   none-behind r [] h l a e p = refl
@@ -122,7 +122,7 @@ module _ (authority round : ℕ) where
       exists-cons s rows
       ∙ rw (has-other s long (λ same. irreflexive wanted (rw same at q)), none-behind s rows long (a .0) (a .1) (e .1) q)
 
-  module _ (r : List ℕ) (rows : List (List ℕ)) (long : 6 ≤ length r) (e : Eights rows) (a : Ascending (r ∷ rows)) where
+  module _ (r : List ℕ) (rows : List (List ℕ)) (long : 6 ≤ length r) (e : EightWords rows) (a : Ascending (r ∷ rows)) where
     against : compared (key r) lowest ≡ choose (compared (take 2 r) wanted) Below (compared (take 4 (drop 2 r)) (zeros 4)) Above
     unfolding zeros
     against =
@@ -130,15 +130,15 @@ module _ (authority round : ℕ) where
         ∙ compared-append (take 2 r) wanted (take 4 (drop 2 r)) (zeros 4) (length-take-le 2 r (omega arith))
 
     at-front : compared (key r) lowest ≡ Above
-        → pick (present lowest (r ∷ rows)) true (firstHas (drop (below lowest (r ∷ rows)) (r ∷ rows))) ≡ has r
-    unfolding below present choose pick
+        → pick (hasKey lowest (r ∷ rows)) true (firstHas (drop (below lowest (r ∷ rows)) (r ∷ rows))) ≡ has r
+    unfolding below hasKey choose pick
     at-front g =
         let none = leads-none lowest rows (leads-trans lowest (key r) rows (below-of (key r) lowest g) (a .0)) (a .1) in
         rw (g, none .0, none .1) refl
 
-  pub exists-place : (rows : List (List ℕ)) → Eights rows → Ascending rows
-      → existsAt authority round rows ≡ pick (present lowest rows) true (firstHas (drop (below lowest rows) rows))
-  unfolding below present choose pick
+  pub exists-place : (rows : List (List ℕ)) → EightWords rows → Ascending rows
+      → existsAt authority round rows ≡ pick (hasKey lowest rows) true (firstHas (drop (below lowest rows) rows))
+  unfolding below hasKey choose pick
   exists-place [] e a = exists-none
   exists-place (r ∷ rows) e a =
       let two : 2 ≤ length r = omega (arith, e .0) in
@@ -158,7 +158,7 @@ module _ (authority round : ℕ) where
       (λ b. absurd (least 4 (take 4 (drop 2 r)) four (sym rest ∙ b)))
       (⊎-elim
       (λ is.
-      let here : present lowest (r ∷ rows) ≡ true = rw is in
+      let here : hasKey lowest (r ∷ rows) ≡ true = rw is in
       exists-cons r rows ∙ rw (has-same r two same, here))
       (λ g. exists-cons r rows ∙ rw (has-same r two same) (sym (has-same r two same) ∙ sym (front g))))
       (order-cases (compared (key r) lowest)))

@@ -1,3 +1,6 @@
+// Ported from block_store.rs of mahi-mahi-consensus, Copyright (c) Mysten Labs, Inc., Apache-2.0.
+// Changed: written anew in Rattle, with contracts. NOTICE says what was carried across and what was changed.
+
 // The block index (block_store.rs, BlockStoreInner): a reference as a row's words, a block's presence
 // in a round, and the store's summary. The rows themselves are a table that the caller lends.
 ghost use mathlib.Core.Path.{_≡_};

@@ -32,7 +32,7 @@ use Rattle.store.specs.Store.{storeCheck, callCheck}
 use Rattle.store.proofs.Checked.{call-checked, call-log, committee-refused, store-passed, log-passed}
 use Rattle.indexing.specs.declared.Inserted.{Inserted}
 use Rattle.indexing.specs.Indexing.{Insertion, refuse, insert, loadedRow, storeWith, insertedOf, imageWith, indexWith}
-use Rattle.insert.specs.Insert.{Decoded, bad, good, blockOf, insertion, Inserts}
+use Rattle.insert.specs.Insert.{Decoded, bad, good, decodedReference, insertion, Inserts}
 use Rattle.indexing.proofs.IndexRows.{InOrder, upserted-in-order}
 use Rattle.indexing.proofs.Indexing.{block-refused, index-full, index-counted}
 use Rattle.insert.proofs.Inserting.{call-refused, place-refused, undecoded, decoded}
@@ -42,7 +42,7 @@ use Rattle.insert.proofs.Inserting.{call-refused, place-refused, undeco
 pub record Passed (w : WalWriter) (size : ℕ) (s : BlockStore) (index : List ℕ) (tag : ℕ) (payload : List ℕ) (start : ℕ) (r : BlockReference) (n : ℕ) : Type 0 where
   pub call : callCheck (w .exponent) (w .used) size s index ≡ 0
   pub placed : place (w .exponent) (w .used) size (length payload) ≡ accepted start
-  pub holds : blockOf tag payload ≡ good r
+  pub holds : decodedReference tag payload ≡ good r
   pub block : blockNumber (s .«committee_size») (s .authority) (rowsOf (s .rows) index) r ≡ 0
   pub counted : upsertCount index (s .rows) (loadedRow r start) ≡ Count n
 
@@ -59,7 +59,7 @@ accepted-passed w size s index tag payload {start} {r} {n} e =
     (eqb-cases (callCheck (w .exponent) (w .used) size s index) 0)
   where
     counting : callCheck (w .exponent) (w .used) size s index ≡ 0 → (at : ℕ) → place (w .exponent) (w .used) size (length payload) ≡ accepted at
-        → (b : BlockReference) → blockOf tag payload ≡ good b
+        → (b : BlockReference) → decodedReference tag payload ≡ good b
         → blockNumber (s .«committee_size») (s .authority) (rowsOf (s .rows) index) b ≡ 0
         → (u : Upserted) → u ≡ upsertCount index (s .rows) (loadedRow b at) → Passed w size s index tag payload start r n
     counting passed at placed b holds block (Count m) counted =
@@ -76,7 +76,7 @@ accepted-passed w size s index tag payload {start} {r} {n} e =
         absurd (not-both (decoded w size s index tag payload passed placed holds ∙ index-full s index at b refl block refl full) e)
 
     holding : callCheck (w .exponent) (w .used) size s index ≡ 0 → (at : ℕ) → place (w .exponent) (w .used) size (length payload) ≡ accepted at
-        → (d : Decoded) → blockOf tag payload ≡ d → Passed w size s index tag payload start r n
+        → (d : Decoded) → decodedReference tag payload ≡ d → Passed w size s index tag payload start r n
     holding passed at placed (bad m) holds = absurd (not-both (undecoded w size s index tag payload passed placed holds) e)
     holding passed at placed (good b) holds =
         ⊎-elim
@@ -86,7 +86,7 @@ accepted-passed w size s index tag payload {start} {r} {n} e =
 
     placing : callCheck (w .exponent) (w .used) size s index ≡ 0 → (p : Placed) → place (w .exponent) (w .used) size (length payload) ≡ p
         → Passed w size s index tag payload start r n
-    placing passed (accepted at) placed = holding passed at placed (blockOf tag payload) refl
+    placing passed (accepted at) placed = holding passed at placed (decodedReference tag payload) refl
     placing passed (refused m) placed = absurd (not-both (place-refused w size s index tag payload passed placed) e)
 
 -- ---- What it leaves passes the checks of a call

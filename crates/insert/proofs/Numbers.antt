@@ -24,7 +24,7 @@ use Rattle.store.specs.declared.BlockStore.{BlockStore}
 use Rattle.rows.specs.Rows.{rowsOf}
 use Rattle.store.specs.Store.{callCheck}
 use Rattle.indexing.specs.Indexing.{Insertion, refuse, insert, loadedRow, indexing, insertedOf}
-use Rattle.insert.specs.Insert.{Decoded, good, blockOf, insertion}
+use Rattle.insert.specs.Insert.{Decoded, good, decodedReference, insertion}
 use Rattle.insert.specs.Insert as definitions
 use Rattle.indexing.proofs.Indexing.{block-refused, index-full, index-counted}
 use Rattle.insert.proofs.Inserting.{call-refused, place-refused, undecoded, decoded}
@@ -61,8 +61,8 @@ unfolding answer
 answer-numbered n f h bad = h
 answer-numbered n f h (got v e) = tt
 
-block-numbered : (tag : ℕ) (payload : List ℕ) → DecodedNumbered (blockOf tag payload)
-unfolding blockOf
+block-numbered : (tag : ℕ) (payload : List ℕ) → DecodedNumbered (decodedReference tag payload)
+unfolding decodedReference
 block-numbered tag payload =
     either DecodedNumbered (eqb tag 1)
     (answer-numbered 9 (λ (b : BlockValue). b .reference) (omega arith) (block payload 0))
@@ -94,7 +94,7 @@ insertion-numbered w size s index tag payload =
   where
     holding : callCheck (w .exponent) (w .used) size s index ≡ 0 → (start : ℕ)
         → place (w .exponent) (w .used) size (length payload) ≡ accepted start
-        → (d : Decoded) → blockOf tag payload ≡ d → Numbered (insertion w size s index tag payload)
+        → (d : Decoded) → decodedReference tag payload ≡ d → Numbered (insertion w size s index tag payload)
     holding z start at (definitions.Decoded.bad n) is =
         subst Numbered (sym (undecoded w size s index tag payload z at is)) (subst DecodedNumbered is (block-numbered tag payload))
     holding z start at (good r) is =
@@ -102,7 +102,7 @@ insertion-numbered w size s index tag payload =
 
     placed : callCheck (w .exponent) (w .used) size s index ≡ 0 → (p : Placed)
         → place (w .exponent) (w .used) size (length payload) ≡ p → Numbered (insertion w size s index tag payload)
-    placed z (accepted start) is = holding z start is (blockOf tag payload) refl
+    placed z (accepted start) is = holding z start is (decodedReference tag payload) refl
     placed z (refused n) is =
         subst Numbered (sym (place-refused w size s index tag payload z is))
         (subst PlaceNumbered is (place-numbered (w .exponent) (w .used) size (length payload)))

@@ -10,7 +10,7 @@ use borrow.Author.Tests.{le-leb, lt-leb}
 use Rattle.laws.specs.Pick.{pick}
 use Rattle.laws.proofs.Tests.{leb-cases}
 use Rattle.rows.specs.Rows.{rowsOf, Ascending, below}
-use Rattle.tables.specs.Tables.{Eights}
+use Rattle.tables.specs.Tables.{EightWords}
 use Rattle.rows.proofs.Rows.{length-rowsOf, getD-rowsOf, first-rowAt}
 use Rattle.rows.proofs.Places.{below-within}
 use Rattle.tables.proofs.Tables.{eights-rowsOf}
@@ -31,10 +31,10 @@ least-at p (r ∷ rows) zero l h = l .0
 least-at p (r ∷ rows) (suc i) l h = least-at p rows i (l .1) (omega arith)
 
 module _ (x : ℕ) where
-  none-before : (r : List ℕ) (rows : List (List ℕ)) → Rising (r ∷ rows) → Eights (r ∷ rows) → x ≤ getD r 0 0 → below (roundKey x) (r ∷ rows) ≡ 0
+  none-before : (r : List ℕ) (rows : List (List ℕ)) → Rising (r ∷ rows) → EightWords (r ∷ rows) → x ≤ getD r 0 0 → below (roundKey x) (r ∷ rows) ≡ 0
   none-before r rows l e h = lower-none x (getD r 0 0) (r ∷ rows) e h (omega arith, l .0)
 
-  before-first : (rows : List (List ℕ)) → Rising rows → Eights rows → (i : ℕ) → i < below (roundKey x) rows → roundAt rows i < x
+  before-first : (rows : List (List ℕ)) → Rising rows → EightWords rows → (i : ℕ) → i < below (roundKey x) rows → roundAt rows i < x
   unfolding below
   before-first [] l e i h = absurd (omega arith)
   before-first (r ∷ rows) l e zero h =
@@ -45,7 +45,7 @@ module _ (x : ℕ) where
       (λ f. absurd (omega (arith, none-before r rows l e (omega (arith, f .1)))))
       (leb-cases (suc (getD r 0 0)) x)
 
-  from-first : (rows : List (List ℕ)) → Rising rows → Eights rows → (i : ℕ) → below (roundKey x) rows ≤ i → i < length rows → x ≤ roundAt rows i
+  from-first : (rows : List (List ℕ)) → Rising rows → EightWords rows → (i : ℕ) → below (roundKey x) rows ≤ i → i < length rows → x ≤ roundAt rows i
   from-first [] l e i h k = absurd (omega arith)
   from-first (r ∷ rows) l e zero h k =
       ⊎-elim (λ t. absurd (omega (arith, lower-next x r rows (e .0) (t .1)))) (λ f. omega (arith, f .1)) (leb-cases (suc (getD r 0 0)) x)
@@ -85,7 +85,7 @@ module _ (w : List ℕ) (count : ℕ) (fits : 8 * count ≤ length w) (ascends :
   rising : Rising (rowsOf count w)
   rising = ascending-rising (rowsOf count w) ascends
 
-  eights : Eights (rowsOf count w)
+  eights : EightWords (rowsOf count w)
   eights = eights-rowsOf count w fits
 
   pub to-within : to ≤ count

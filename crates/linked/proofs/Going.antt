@@ -23,7 +23,7 @@ use Rattle.reach.specs.declared.Searched.{Searched}
 use Rattle.reach.specs.declared.Parents.{Parents}
 use Rattle.reach.specs.Blocks.{Indexed, all, readBlocks}
 use Rattle.includes.specs.Includes.{includesOf, Parses}
-use Rattle.reach.specs.Reaching.{AllPlaced, Ready, reachedIn, parentsOf, nextParents, meets, Marked, searchedOf}
+use Rattle.reach.specs.Reaching.{AllBlockPlaces, Ready, reachedIn, parentsOf, nextParents, meets, Marked, searchedOf}
 use Rattle.reach.proofs.Asking.{parents-later, parents-rows}
 use Rattle.reach.proofs.Appending.{unloaded-most}
 use Rattle.linked.proofs.Descending.{to-within, down-ends, round-below, round-from, down-round, from-below, between-round}
@@ -39,7 +39,7 @@ pub record Going (k : ℕ) (s : List ℕ) (used : ℕ) (bytes : List ℕ) (earli
   pub place : to ≡ below (roundKey above) (rowsOf count w)
   under : above ≤ high
   lent : end ≤ count
-  placed : AllPlaced s (between to end work)
+  placed : AllBlockPlaces s (between to end work)
   pub few : u + to ≤ count
   searching : Searching k s used earlier high (includesOf bytes) (rowsOf count w) above u found
       (parentsOf s bytes (record { later = eqb above high; end = end }) (between to end work))
@@ -54,7 +54,7 @@ module _ (k : ℕ) (s : List ℕ) (used : ℕ) (bytes : List ℕ) (earlier : Blo
         place = is;
         under = omega arith;
         lent = within;
-        placed = subst (AllPlaced s) (sym (between-none to work)) tt;
+        placed = subst (AllBlockPlaces s) (sym (between-none to work)) tt;
         few = omega arith;
         searching =
             subst (Searching k s used earlier high (includesOf bytes) (rowsOf count w) high 0 false)
@@ -93,7 +93,7 @@ module _ (k : ℕ) (s : List ℕ) (used : ℕ) (bytes : List ℕ) (earlier : Blo
             (λ t.
             record {
               lent = omega (arith, h .as-long);
-              placed = subst (AllPlaced s) (sym (between-none to work)) tt;
+              placed = subst (AllBlockPlaces s) (sym (between-none to work)) tt;
               parses = parses;
             })
 

@@ -18,7 +18,7 @@ use Rattle.query.specs.Query.{unloaded}
 use Rattle.block_reader.proofs.Reading.{NumberedBlock, is-refused, is-got, blockAt-numbered}
 use Rattle.filters.proofs.Keeping.{keep-yes, keep-no}
 use Rattle.reach.specs.declared.Searched.{Searched}
-use Rattle.reach.specs.Blocks.{Indexed, Reads, failed, all, also, next, readBlocks}
+use Rattle.reach.specs.Blocks.{Indexed, Reads, failed, all, also, blockThen, readBlocks}
 use Rattle.includes.specs.References.{any}
 use Rattle.linked.specs.Chains.{reaches}
 use Rattle.linked.specs.Linked.{downTo}
@@ -36,8 +36,8 @@ EachRead P (failed n) = Unit {0}
 EachRead P (all blocks) = Each P blocks
 
 each-next : (n : ℕ) (s : List ℕ) (round : ℕ) → round ≡ n → (x : BlockRead) (r : Reads) → EachRead (OfRound n) r
-    → EachRead (OfRound n) (next s round x r)
-unfolding next also
+    → EachRead (OfRound n) (blockThen s round x r)
+unfolding blockThen also
 each-next n s round e (reading.BlockRead.refused m) r h = tt
 each-next n s round e (reading.BlockRead.got b at m) (failed f) h = tt
 each-next n s round e (reading.BlockRead.got b at m) (all blocks) h = (e, h)
@@ -60,8 +60,8 @@ abbrev pub Numbered : Reads → Type 0
 Numbered (failed n) = 0 < n
 Numbered (all blocks) = Unit {0}
 
-numbered-next : (s : List ℕ) (round : ℕ) {x : BlockRead} → NumberedBlock x → (r : Reads) → Numbered r → Numbered (next s round x r)
-unfolding next also
+numbered-next : (s : List ℕ) (round : ℕ) {x : BlockRead} → NumberedBlock x → (r : Reads) → Numbered r → Numbered (blockThen s round x r)
+unfolding blockThen also
 numbered-next s round (is-refused h) r g = h
 numbered-next s round is-got (failed n) g = g
 numbered-next s round is-got (all blocks) g = tt

@@ -1,3 +1,6 @@
+// Ported from block_store.rs of mahi-mahi-consensus, Copyright (c) Mysten Labs, Inc., Apache-2.0.
+// Changed: written anew in Rattle, with contracts. NOTICE says what was carried across and what was changed.
+
 // Whether one block is an ancestor of another (block_store.rs, linked): the rounds are searched from the later
 // block's down.
 ghost use mathlib.Core.Path.{_≡_};

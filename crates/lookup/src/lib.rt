@@ -1,3 +1,6 @@
+// Ported from block_store.rs of mahi-mahi-consensus, Copyright (c) Mysten Labs, Inc., Apache-2.0.
+// Changed: written anew in Rattle, with contracts. NOTICE says what was carried across and what was changed.
+
 // Lookups by reference, by round, and by round and author (block_store.rs, BlockStore's queries). Each reads the
 // blocks that it finds from the log, and writes them as rows of the table `out`.
 ghost use Rattle.lookup.specs.Lookups.{GetBlock, GetBlocksByRound, GetBlocksAtAuthorityRound};

@@ -1,3 +1,6 @@
+// Ported from block_store.rs of mahi-mahi-consensus, Copyright (c) Mysten Labs, Inc., Apache-2.0.
+// Changed: written anew in Rattle, with contracts. NOTICE says what was carried across and what was changed.
+
 // Lookups after a round (block_store.rs, BlockStore's queries): own blocks, and others' blocks. Each reads the
 // blocks that it finds from the log, and writes them as rows of the table `out`.
 ghost use Rattle.lookup_after.specs.After.{GetOwnBlocks, GetOthersBlocks};

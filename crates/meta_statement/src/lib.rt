@@ -1,3 +1,6 @@
+// Ported from core.rs and state.rs of mahi-mahi-consensus, Copyright (c) Mysten Labs, Inc., Apache-2.0.
+// Changed: written anew in Rattle, with contracts. NOTICE says what was carried across and what was changed.
+
 // What a pending entry stands for (core.rs, `MetaStatement`; state.rs, `into_meta_statement`).
 use bincode::Cursor;
 use bincode::Part;

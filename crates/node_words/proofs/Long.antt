@@ -4,7 +4,7 @@ use mathlib.Core.List.{List}
 use Prim.Native.Nat.{ℕ, zero, suc}
 use native.Mathlib.Omega.{arith}
 use lib.ListN.{length, length-replicate}
-use Rattle.replay.specs.Items.{Read}
+use Rattle.replay.specs.Items.{ReplayEntry}
 use Rattle.replay.specs.Recovery.{Recovery, refused, recovered}
 use Rattle.index.specs.Keys.{keyWords, digestWords}
 use Rattle.index.specs.Summary.{emptySummary}
@@ -19,7 +19,7 @@ words-long : (r : Recovered) → length (r .replay .blocks .summary .«last_seen
 unfolding recoveredWords headWords spanWords foundWords summaryWords keyWords digestWords
 words-long r h = omega arith
 
-last-seen-long : (a n : ℕ) (l : List Read) → length (lastSeenFrom a n l) ≡ n
+last-seen-long : (a n : ℕ) (l : List ReplayEntry) → length (lastSeenFrom a n l) ≡ n
 unfolding lastSeenFrom
 last-seen-long a zero l = refl
 last-seen-long a (suc n) l = ap suc (last-seen-long (suc a) n l)

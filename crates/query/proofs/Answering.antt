@@ -17,9 +17,9 @@ use Rattle.store.proofs.Checked.{Checked, call-checked}
 use Rattle.query.specs.declared.Looked.{Looked}
 use Rattle.query.specs.declared.Collected.{Collected}
 use Rattle.block_reader.specs.Reading.{BlockRead}
-use Rattle.query.specs.Query.{Blocks, failed, all, also, next, readRows, unloaded, counted, Query, answers, fitting, query, lookedUp, answerWords, Answers}
+use Rattle.query.specs.Query.{Blocks, failed, all, also, followedBy, readRows, unloaded, counted, Query, answers, fitting, query, lookedUp, answerWords, Answers}
 use Rattle.query.specs.Query as queries
-use Rattle.query.specs.Collecting.{collectedOf, NoZero, Holds, Finishes}
+use Rattle.query.specs.Collecting.{collectedOf, NoZero, HoldsRows, FinishesQuery}
 use Rattle.block_reader.proofs.Reading.{NumberedBlock, is-refused, is-got, blockAt-numbered}
 
 -- ---- The checks of a call
@@ -38,8 +38,8 @@ unfolding also
 also-numbered row (failed n) h = h
 also-numbered row (all rows) h = tt
 
-next-numbered : {x : BlockRead} → NumberedBlock x → (b : Blocks) → NoZero b → NoZero (next x b)
-unfolding next
+next-numbered : {x : BlockRead} → NumberedBlock x → (b : Blocks) → NoZero b → NoZero (followedBy x b)
+unfolding followedBy
 next-numbered (is-refused h) b g = h
 next-numbered is-got b g = also-numbered _ b g
 
@@ -81,7 +81,7 @@ collected-all chosen rows made =
 
 module _ (store : BlockStore) (c : Collected) {r : Looked} {out out′ : List ℕ} where
   pub finishes-refused : (c .number ≡ 0 → ⊥) → r ≡ lookedUp store [] (queries.Query.refused (c .number)) → out′ ≡ zeros (length out)
-      → Finishes store c r out out′
+      → FinishesQuery store c r out out′
   finishes-refused found is clear chosen (failed n) made numbered holds =
       let same : queries.Query.refused (c .number) ≡ fitting (length out / 8) (failed n) =
       ap queries.Query.refused (collected-number chosen n made) ∙ sym (fails (length out / 8) n) in
@@ -90,7 +90,7 @@ module _ (store : BlockStore) (c : Collected) {r : Looked} {out out′ : List �
 
   module _ (passed : c .number ≡ 0) where
     pub finishes-full : length out / 8 < c .rows → r ≡ lookedUp store [] (queries.Query.refused 15) → out′ ≡ zeros (length out)
-        → Finishes store c r out out′
+        → FinishesQuery store c r out out′
     finishes-full more is clear chosen (failed n) made numbered holds =
         absurd (omega (arith, collected-number chosen n made, numbered))
     finishes-full more is clear chosen (all rows) made numbered holds =
@@ -99,7 +99,7 @@ module _ (store : BlockStore) (c : Collected) {r : Looked} {out out′ : List �
         (refusal store chosen 15 is clear)
 
     pub finishes-answers : c .rows ≤ length out / 8 → r ≡ record { number = 0; rows = c .rows; store = counted store (c .unloaded) } → out′ ≡ out
-        → Finishes store c r out out′
+        → FinishesQuery store c r out out′
     unfolding lookedUp answerWords
     finishes-answers room is same chosen (failed n) made numbered holds =
         absurd (omega (arith, collected-number chosen n made, numbered))
@@ -144,7 +144,7 @@ module _ (store : BlockStore) (k : ℕ) (s : List ℕ) (used : ℕ) (chosen : Li
 
     -- by what was collected for it, in a table that was cleared first
     pub query-answers : (these : List (List ℕ)) {c : Collected} {mid : List ℕ} → these ≡ chosen → length mid ≡ length out
-        → c ≡ collectedOf these (readRows k s used these) → Holds (readRows k s used these) mid → Finishes store c r mid out′
+        → c ≡ collectedOf these (readRows k s used these) → HoldsRows (readRows k s used these) mid → FinishesQuery store c r mid out′
         → Answers store chosen (query n k s used (length out / 8) chosen) r out out′
     query-answers these {c} {mid} same long made holds finishes =
         passes (ap₂ (λ (m : ℕ) (l : List (List ℕ)). fitting (m / 8) (readRows k s used l)) long same)

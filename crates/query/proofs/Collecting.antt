@@ -21,11 +21,11 @@ use Rattle.store.specs.Store.{loaded}
 use Rattle.query.specs.declared.Collected.{Collected}
 use Rattle.block_reader.specs.declared.ReadBlock.{ReadBlock}
 use Rattle.block_reader.specs.Reading.{BlockRead, blockAt, readOf}
-use Rattle.query.specs.Query.{answerRow, Blocks, failed, all, also, next, readRows, unloaded}
+use Rattle.query.specs.Query.{answerRow, Blocks, failed, all, also, followedBy, readRows, unloaded}
 use Rattle.filters.specs.Filters.{authorOf}
 use Rattle.filters.specs.Filters as filters
 use Rattle.filters.specs.Segments.{between, chosen}
-use Rattle.query.specs.Collecting.{collectedOf, Holds, answerPut}
+use Rattle.query.specs.Collecting.{collectedOf, HoldsRows, answerPut}
 use Rattle.store.proofs.Words.{word-rowAt}
 use Rattle.filters.proofs.Keeping.{keep-yes, keep-no, between-rows}
 use Rattle.block_reader.proofs.Reading.{blockAt-numbered, told-refused, told-got}
@@ -147,7 +147,7 @@ module _ (k : ℕ) (s : List ℕ) (used : ℕ) (every : Bool) (author limit : �
     -- nothing more is chosen
     collected : {c : Collected} → chosen every author (limit - n) rest ≡ [] → c ≡ record { number = 0; rows = n; unloaded = u }
         → (c ≡ collectedOf (chosen every author limit rows) (readRows k s used (chosen every author limit rows)))
-        × Holds (readRows k s used (chosen every author limit rows)) out
+        × HoldsRows (readRows k s used (chosen every author limit rows)) out
     unfolding behind readRows collectedOf unloaded
     collected none is =
         let found : readRows k s used (chosen every author limit rows) ≡ all (h .done) =
@@ -158,17 +158,17 @@ module _ (k : ℕ) (s : List ℕ) (used : ℕ) (every : Bool) (author limit : �
           is
               ∙ ap₂ (λ (n u : ℕ). record { number = 0; rows = n; unloaded = u }) count not-loaded
               ∙ sym (ap (collectedOf (chosen every author limit rows)) found),
-          subst (λ (b : Blocks). Holds b out) (sym found) (λ fits. h .table (omega (arith, fits, h .counted)) .words),
+          subst (λ (b : Blocks). HoldsRows b out) (sym found) (λ fits. h .table (omega (arith, fits, h .counted)) .words),
         )
 
     pub collected-end : {c : Collected} → rest ≡ [] → c ≡ record { number = 0; rows = n; unloaded = u }
         → (c ≡ collectedOf (chosen every author limit rows) (readRows k s used (chosen every author limit rows)))
-        × Holds (readRows k s used (chosen every author limit rows)) out
+        × HoldsRows (readRows k s used (chosen every author limit rows)) out
     collected-end none is = collected (ap (chosen every author (limit - n)) none ∙ chosen-nothing every author (limit - n)) is
 
     pub collected-limit : {c : Collected} → limit ≤ n → c ≡ record { number = 0; rows = n; unloaded = u }
         → (c ≡ collectedOf (chosen every author limit rows) (readRows k s used (chosen every author limit rows)))
-        × Holds (readRows k s used (chosen every author limit rows)) out
+        × HoldsRows (readRows k s used (chosen every author limit rows)) out
     collected-limit full is =
         let none : limit - n ≡ 0 = omega arith in
         collected (ap (λ (m : ℕ). chosen every author m rest) none ∙ chosen-zero every author rest) is
@@ -195,28 +195,28 @@ module _ (k : ℕ) (s : List ℕ) (used : ℕ) (every : Bool) (author limit : �
             ap₂ (λ (m : ℕ) (l : List (List ℕ)). chosen every author m l) some first ∙ chosen-yes every author r rest′ (limit - (n + 1)) e
 
         reads-next : readRows k s used (chosen every author limit rows)
-            ≡ behind (h .done) (next (blockAt k s used (getD r 6 0)) (readRows k s used (chosen every author (limit - (n + 1)) rest′)))
+            ≡ behind (h .done) (followedBy (blockAt k s used (getD r 6 0)) (readRows k s used (chosen every author (limit - (n + 1)) rest′)))
         unfolding readRows
         reads-next = h .reads ∙ ap (λ (l : List (List ℕ)). behind (h .done) (readRows k s used l)) takes
 
         -- a block that cannot be read
         pub collected-refused : (b .number ≡ 0 → ⊥) → {c : Collected} → c ≡ record { number = b .number; rows = 0; unloaded = 0 }
             → (c ≡ collectedOf (chosen every author limit rows) (readRows k s used (chosen every author limit rows)))
-            × Holds (readRows k s used (chosen every author limit rows)) out
-        unfolding behind next collectedOf
+            × HoldsRows (readRows k s used (chosen every author limit rows)) out
+        unfolding behind followedBy collectedOf
         collected-refused found made =
             let fails : readRows k s used (chosen every author limit rows) ≡ failed (b .number) =
             reads-next
-            ∙ ap (λ (x : BlockRead). behind (h .done) (next x (readRows k s used (chosen every author (limit - (n + 1)) rest′))))
+            ∙ ap (λ (x : BlockRead). behind (h .done) (followedBy x (readRows k s used (chosen every author (limit - (n + 1)) rest′))))
             (told-refused _ (blockAt-numbered k s used (getD r 6 0)) is found) in (
               made ∙ sym (ap (collectedOf (chosen every author limit rows)) fails),
-              subst (λ (b : Blocks). Holds b out) (sym fails) tt,
+              subst (λ (b : Blocks). HoldsRows b out) (sym fails) tt,
             )
 
         -- one that can, and its row of the answer
         pub collecting-next : b .number ≡ 0 → (out′ : List ℕ) → out′ ≡ answerPut out n (answerRow (b .reference) (b .at) (b .len))
             → (v : ℕ) → v ≡ pick (eqb (getD r 7 0) 0) 1 0 → Collecting k s used every author limit rows rest′ (n + 1) (u + v) out′
-        unfolding next
+        unfolding followedBy
         collecting-next zero-number out′ put v loads-more =
             let row : List ℕ = answerRow (b .reference) (b .at) (b .len) in
             record {
@@ -226,7 +226,7 @@ module _ (k : ℕ) (s : List ℕ) (used : ℕ) (every : Bool) (author limit : �
               few = omega (arith, h .few, at-most-one (eqb (getD r 7 0) 0), loads-more);
               reads =
                   reads-next
-                  ∙ ap (λ (x : BlockRead). behind (h .done) (next x (readRows k s used (chosen every author (limit - (n + 1)) rest′))))
+                  ∙ ap (λ (x : BlockRead). behind (h .done) (followedBy x (readRows k s used (chosen every author (limit - (n + 1)) rest′))))
                   (told-got _ (blockAt-numbered k s used (getD r 6 0)) is zero-number)
                   ∙ behind-also (h .done) row (readRows k s used (chosen every author (limit - (n + 1)) rest′));
               loads = omega (arith, h .loads, ap unloaded takes, one-unloaded r (chosen every author (limit - (n + 1)) rest′), loads-more);
@@ -248,7 +248,7 @@ module _ (k : ℕ) (s : List ℕ) (used : ℕ) (every : Bool) (author limit : �
   abbrev Answered : Collected → List ℕ → Type 0
   Answered c out =
       (c ≡ collectedOf (chosen every author limit (between from to w)) (readRows k s used (chosen every author limit (between from to w))))
-      × Holds (readRows k s used (chosen every author limit (between from to w))) out
+      × HoldsRows (readRows k s used (chosen every author limit (between from to w))) out
 
   module _ (i n u : ℕ) (out : List ℕ) (h : AtRow i n u out) where
     pub row-end : to ≤ i → Answered (record { number = 0; rows = n; unloaded = u }) out

@@ -22,16 +22,16 @@ NoZero (failed n) = 0 < n
 NoZero (all found) = Unit {0}
 
 -- the words of the answer table, where the rows fit
-abbrev pub Holds : Blocks → List ℕ → Type 0
-Holds (failed n) out = Unit {0}
-Holds (all found) out = length found ≤ length out / 8 → out ≡ tableOf (length out) found
+abbrev pub HoldsRows : Blocks → List ℕ → Type 0
+HoldsRows (failed n) out = Unit {0}
+HoldsRows (all found) out = length found ≤ length out / 8 → out ≡ tableOf (length out) found
 
 -- a row of the answer, where there is room for it
 unfoldable pub answerPut : List ℕ → ℕ → List ℕ → List ℕ
 answerPut out i row = pick (ltb i (length out / 8)) (written out (8 * i) row) out
 
 -- the answer of a query whose rows were collected
-abbrev pub Finishes : BlockStore → Collected → Looked → List ℕ → List ℕ → Type 0
-Finishes store c r out out′ =
-    (chosen : List (List ℕ)) (b : Blocks) → c ≡ collectedOf chosen b → NoZero b → Holds b out
+abbrev pub FinishesQuery : BlockStore → Collected → Looked → List ℕ → List ℕ → Type 0
+FinishesQuery store c r out out′ =
+    (chosen : List (List ℕ)) (b : Blocks) → c ≡ collectedOf chosen b → NoZero b → HoldsRows b out
     → Answers store chosen (fitting (length out / 8) b) r out out′

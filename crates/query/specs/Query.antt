@@ -33,13 +33,13 @@ also row (failed n) = failed n
 also row (all rows) = all (row ∷ rows)
 
 -- a block, and those behind it
-unfoldable pub next : BlockRead → Blocks → Blocks
-next (reading.BlockRead.refused n) rest = failed n
-next (reading.BlockRead.got r at n) rest = also (answerRow r at n) rest
+unfoldable pub followedBy : BlockRead → Blocks → Blocks
+followedBy (reading.BlockRead.refused n) rest = failed n
+followedBy (reading.BlockRead.got r at n) rest = also (answerRow r at n) rest
 
 unfoldable pub readRows : ℕ → List ℕ → ℕ → List (List ℕ) → Blocks
 readRows k s used [] = all []
-readRows k s used (r ∷ rows) = next (blockAt k s used (getD r 6 0)) (readRows k s used rows)
+readRows k s used (r ∷ rows) = followedBy (blockAt k s used (getD r 6 0)) (readRows k s used rows)
 
 -- ---- The answer
 

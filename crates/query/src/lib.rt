@@ -1,3 +1,6 @@
+// Ported from block_store.rs of mahi-mahi-consensus, Copyright (c) Mysten Labs, Inc., Apache-2.0.
+// Changed: written anew in Rattle, with contracts. NOTICE says what was carried across and what was changed.
+
 // What every query is made of (block_store.rs, BlockStore's queries): the blocks of chosen rows read into the
 // answer table, the loads counted. The rows of the table `out` have the reference in the block, and where its
 // bytes stand in the image.
@@ -9,7 +12,7 @@ ghost use Rattle.laws.specs.Bytes.{zeros};
 ghost use Rattle.query.specs.Query.{answerRow, readRows, counted, lookedUp};
 ghost use Rattle.query.specs.Query as queries;
 ghost use Rattle.filters.specs.Segments.{between, chosen};
-ghost use Rattle.query.specs.Collecting.{collectedOf, Holds, answerPut, Finishes};
+ghost use Rattle.query.specs.Collecting.{collectedOf, HoldsRows, answerPut, FinishesQuery};
 use block_reader::ReadBlock;
 use store::BlockStore;
 use types::AuthorityIndex;
@@ -72,7 +75,7 @@ pub fn collect(
 ) -> Collected
     requires { ⌜ (8 * to ≤ length (now index)) × (now out ≡ zeros (length (now out))) ⌝ }
     ensures { λ r. ⌜ r ≡ collectedOf (chosen every author limit (between from to (now (index .entry)))) (readRows k (now (image .entry)) used (chosen every author limit (between from to (now (index .entry))))) ⌝ }
-    ensures { λ _. ⌜ Holds (readRows k (now (image .entry)) used (chosen every author limit (between from to (now (index .entry))))) (now (out .exit)) ⌝ }
+    ensures { λ _. ⌜ HoldsRows (readRows k (now (image .entry)) used (chosen every author limit (between from to (now (index .entry))))) (now (out .exit)) ⌝ }
 {
     let mut i = from;
     let mut n = 0;
@@ -112,7 +115,7 @@ pub fn collect(
 // The answer of a query whose rows were collected: more rows than lent are refused, and a refusal
 // leaves no word in the table.
 pub fn finish(store: BlockStore, collected: Collected, out: &mut [u64]) -> Looked
-    ensures { λ r. ⌜ Finishes store collected r (now (out .entry)) (now (out .exit)) ⌝ }
+    ensures { λ r. ⌜ FinishesQuery store collected r (now (out .entry)) (now (out .exit)) ⌝ }
 {
     let number = collected.number;
     if number != 0 {

@@ -13,8 +13,8 @@ use Rattle.block_reader.specs.Reading.{BlockRead, blockAt}
 use Rattle.filters.specs.Filters.{roundOf}
 use Rattle.query.specs.Query.{unloaded}
 use Rattle.query.proofs.Collecting.{at-most-one, one-unloaded}
-use Rattle.reach.specs.Blocks.{Indexed, Reads, failed, all, also, next, readBlocks}
-use Rattle.reach.specs.Reaching.{AllPlaced, reachedIn, isReached, nextParents}
+use Rattle.reach.specs.Blocks.{Indexed, Reads, failed, all, also, blockThen, readBlocks}
+use Rattle.reach.specs.Reaching.{AllBlockPlaces, reachedIn, isReached, nextParents}
 
 -- ---- What is read
 
@@ -33,8 +33,8 @@ unfolding joined
 joined-joined a b (failed n) = refl
 joined-joined a b (all c) = ap all (sym (append-assoc a b c))
 
-next-joined : (s : List ℕ) (round : ℕ) (x : BlockRead) (r y : Reads) → next s round x (joined r y) ≡ joined (next s round x r) y
-unfolding next also joined
+next-joined : (s : List ℕ) (round : ℕ) (x : BlockRead) (r y : Reads) → blockThen s round x (joined r y) ≡ joined (blockThen s round x r) y
+unfolding blockThen also joined
 next-joined s round (reading.BlockRead.refused n) r y = refl
 next-joined s round (reading.BlockRead.got b at n) (failed m) y = refl
 next-joined s round (reading.BlockRead.got b at n) (all a) (failed m) = refl
@@ -45,7 +45,7 @@ pub reads-append : (k : ℕ) (s : List ℕ) (used : ℕ) (a b : List (List ℕ))
 unfolding readBlocks
 reads-append k s used [] b = sym (joined-nothing (readBlocks k s used b))
 reads-append k s used (r ∷ a) b =
-    ap (next s (roundOf r) (blockAt k s used (getD r 6 0))) (reads-append k s used a b)
+    ap (blockThen s (roundOf r) (blockAt k s used (getD r 6 0))) (reads-append k s used a b)
     ∙ next-joined s (roundOf r) (blockAt k s used (getD r 6 0)) (readBlocks k s used a) (readBlocks k s used b)
 
 -- ---- Loads
@@ -63,7 +63,7 @@ unloaded-most (r ∷ a) = omega (arith, one-unloaded r a, at-most-one (eqb (getD
 -- ---- Working rows, and parents
 
 module _ (s : List ℕ) where
-  pub placed-append : (a b : List (List ℕ)) → AllPlaced s a → AllPlaced s b → AllPlaced s (a ++ b)
+  pub placed-append : (a b : List (List ℕ)) → AllBlockPlaces s a → AllBlockPlaces s b → AllBlockPlaces s (a ++ b)
   placed-append [] b h g = g
   placed-append (r ∷ a) b h g = (h .0, placed-append a b (h .1) g)
 

@@ -19,7 +19,7 @@ use Rattle.filters.proofs.Keeping.{between-rows}
 use Rattle.reach.specs.declared.Parents.{Parents}
 use Rattle.includes.specs.References.{among, any}
 use Rattle.includes.specs.Includes.{includesOf, Parses}
-use Rattle.reach.specs.Reaching.{Placed, AllPlaced, reachedIn, parentsOf, isReached}
+use Rattle.reach.specs.Reaching.{BlockPlace, AllBlockPlaces, reachedIn, parentsOf, isReached}
 use Rattle.includes.proofs.Tests.{or-false}
 
 -- ---- By the first row, and by the first parent
@@ -45,20 +45,20 @@ only-parent includes x = or-false (among x includes)
 -- ---- The loop
 
 pub record Asking (s w : List ℕ) (x : BlockReference) (from to i : ℕ) : Type 0 where
-  placed : AllPlaced s (rowsFrom w i to)
+  placed : AllBlockPlaces s (rowsFrom w i to)
   left : isReached (reachedIn s (between from to w)) x ≡ isReached (reachedIn s (rowsFrom w i to)) x
 
-pub asking-start : (s w : List ℕ) (x : BlockReference) (from to : ℕ) → AllPlaced s (between from to w) → Asking s w x from to from
+pub asking-start : (s w : List ℕ) (x : BlockReference) (from to : ℕ) → AllBlockPlaces s (between from to w) → Asking s w x from to from
 asking-start s w x from to h =
     record {
-      placed = subst (AllPlaced s) (between-rows from to w) h;
+      placed = subst (AllBlockPlaces s) (between-rows from to w) h;
       left = ap (λ (l : List (List ℕ)). isReached (reachedIn s l) x) (between-rows from to w);
     }
 
 module _ {s w : List ℕ} {x : BlockReference} {from to i : ℕ} (h : Asking s w x from to i) where
   module _ (more : i < to) where
-    both : Placed s (rowAt w i) × AllPlaced s (rowsFrom w (i + 1) to)
-    both = subst (AllPlaced s) (rowsFrom-cons w i to more) (h .placed)
+    both : BlockPlace s (rowAt w i) × AllBlockPlaces s (rowsFrom w (i + 1) to)
+    both = subst (AllBlockPlaces s) (rowsFrom-cons w i to more) (h .placed)
 
     pub row-within : getD w (8 * i + 1) 0 + getD w (8 * i + 2) 0 ≤ length s
     row-within = omega (arith, both .0 .within, word-rowAt w i 1 (lit< tt), word-rowAt w i 2 (lit< tt))

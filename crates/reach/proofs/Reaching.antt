@@ -26,10 +26,10 @@ use Rattle.filters.proofs.Keeping.{between-rows}
 use Rattle.query.proofs.Collecting.{one-unloaded}
 use Rattle.reach.specs.declared.Searched.{Searched}
 use Rattle.reach.specs.declared.Parents.{Parents}
-use Rattle.reach.specs.Blocks.{Indexed, Reads, failed, all, also, next, readBlocks}
+use Rattle.reach.specs.Blocks.{Indexed, Reads, failed, all, also, blockThen, readBlocks}
 use Rattle.includes.specs.References.{same, any}
 use Rattle.includes.specs.Includes.{includesOf}
-use Rattle.reach.specs.Reaching.{Placed, AllPlaced, Ready, reachedIn, isReached, nextParents, meets, Marked, searchedOf}
+use Rattle.reach.specs.Reaching.{BlockPlace, AllBlockPlaces, Ready, reachedIn, isReached, nextParents, meets, Marked, searchedOf}
 use Rattle.reach.proofs.Appending.{joined, reads-append, unloaded-append, unloaded-most, placed-append, reachedIn-append, parents-append}
 use Rattle.reach.proofs.Any.{any-append}
 use Rattle.block_reader.proofs.Decoding.{read-decodes}
@@ -93,7 +93,7 @@ pub record Reaching (k : ℕ) (s : List ℕ) (used : ℕ) (earlier : BlockRefere
   reads : readBlocks k s used (rowsFrom w from i) ≡ all done
   loads : u ≡ unloaded (rowsFrom w from i)
   met : found ≡ meets earlier parents done
-  placed : AllPlaced s (rowsFrom work from i)
+  placed : AllBlockPlaces s (rowsFrom work from i)
   marked : reachedIn s (rowsFrom work from i) ≡ nextParents parents done
   behind : drop (8 * to) work ≡ drop (8 * to) work₀
   pub as-long : length work ≡ length work₀
@@ -116,7 +116,7 @@ module _ (k : ℕ) (s : List ℕ) (used : ℕ) (earlier : BlockReference) (paren
         reads = ap (readBlocks k s used) (none w);
         loads = sym (ap unloaded (none w));
         met = refl;
-        placed = subst (AllPlaced s) (sym (none work)) tt;
+        placed = subst (AllBlockPlaces s) (sym (none work)) tt;
         marked = ap (reachedIn s) (none work);
         behind = refl;
         as-long = refl;
@@ -133,7 +133,7 @@ module _ (k : ℕ) (s : List ℕ) (used : ℕ) (earlier : BlockReference) (paren
     reaching-ready {bytes} {p} r =
         record {
           lent = omega (arith, r .lent, h .as-long);
-          placed = subst (AllPlaced s) (sym (reaching-parents (p .end))) (r .placed);
+          placed = subst (AllBlockPlaces s) (sym (reaching-parents (p .end))) (r .placed);
           parses = r .parses;
         }
 
@@ -152,7 +152,7 @@ module _ (k : ℕ) (s : List ℕ) (used : ℕ) (earlier : BlockReference) (paren
           ap₂ (λ (u : ℕ) (f : Bool). record { number = 0; unloaded = u; found = f }) loads (h .met)
               ∙ sym (ap (searchedOf (meets earlier parents) (between from to w)) read),
           subst (Marked s parents (between from to work)) (sym read)
-              (subst (AllPlaced s) (sym (rows work)) (h .placed), ap (reachedIn s) (rows work) ∙ h .marked),
+              (subst (AllBlockPlaces s) (sym (rows work)) (h .placed), ap (reachedIn s) (rows work) ∙ h .marked),
         )
 
     module _ (more : i < to) {b : ReadBlock} (is : b ≡ readOf (blockAt k s used (getD w (8 * i + 6) 0))) where
@@ -161,7 +161,7 @@ module _ (k : ℕ) (s : List ℕ) (used : ℕ) (earlier : BlockReference) (paren
 
       -- a block that cannot be read
       pub reached-refused : (b .number ≡ 0 → ⊥) → Reached k s used earlier parents w from to (record { number = b .number; unloaded = 0; found = false }) work
-      unfolding readBlocks next joined searchedOf
+      unfolding readBlocks blockThen joined searchedOf
       reached-refused fails =
           let x : BlockRead = blockAt k s used (getD (rowAt w i) 6 0) in
           let rest : List (List ℕ) = rowsFrom w (i + 1) to in
@@ -171,7 +171,7 @@ module _ (k : ℕ) (s : List ℕ) (used : ℕ) (earlier : BlockReference) (paren
           ap (readBlocks k s used) (between-rows from to w ∙ rowsFrom-split w from i to (h .start) more)
           ∙ reads-append k s used (rowsFrom w from i) (rowAt w i ∷ rest)
           ∙ ap (λ (r : Reads). joined r (readBlocks k s used (rowAt w i ∷ rest))) (h .reads)
-          ∙ ap (λ (x : BlockRead). joined (all (h .done)) (next s (roundOf (rowAt w i)) x (readBlocks k s used rest))) refused in (
+          ∙ ap (λ (x : BlockRead). joined (all (h .done)) (blockThen s (roundOf (rowAt w i)) x (readBlocks k s used rest))) refused in (
             sym (ap (searchedOf (meets earlier parents) (between from to w)) read),
             subst (Marked s parents (between from to work)) (sym read) tt,
           )
@@ -182,7 +182,7 @@ module _ (k : ℕ) (s : List ℕ) (used : ℕ) (earlier : BlockReference) (paren
           → {v : ℕ} → v ≡ pick (eqb (getD w (8 * i + 7) 0) 0) 1 0
           → {f : Bool} → f ≡ pick found true (pick t (same (b .reference) earlier) false)
           → Reaching k s used earlier parents w from to work₀ work′ (i + 1) (u + v) f
-      unfolding readBlocks next also joined unloaded
+      unfolding readBlocks blockThen also joined unloaded
       reaching-next bytes zero-number {t} asked {work′} put fits {v} loaded {f} meeting =
           let p : ℕ = getD (rowAt w i) 6 0 in
           let row : List ℕ = workRow t (b .at) (b .len) in
@@ -193,7 +193,7 @@ module _ (k : ℕ) (s : List ℕ) (used : ℕ) (earlier : BlockReference) (paren
           let rows : rowsFrom w from (i + 1) ≡ rowsFrom w from i ++ (rowAt w i ∷ []) = rowsFrom-next w from i (h .start) in
           let works : rowsFrom work′ from (i + 1) ≡ rowsFrom work from i ++ (row ∷ []) =
           ap (λ (l : List ℕ). rowsFrom l from (i + 1)) put ∙ rows-pushed work i row refl (omega arith) from (h .start) in
-          let here : Placed s row =
+          let here : BlockPlace s row =
           record { within = decoded .within; parses = (decoded .value, decoded .end, decoded .decodes) } in
           record {
             start = omega (arith, h .start);
@@ -203,7 +203,7 @@ module _ (k : ℕ) (s : List ℕ) (used : ℕ) (earlier : BlockReference) (paren
                 ap (readBlocks k s used) rows
                 ∙ reads-append k s used (rowsFrom w from i) (rowAt w i ∷ [])
                 ∙ ap (λ (r : Reads). joined r (readBlocks k s used (rowAt w i ∷ []))) (h .reads)
-                ∙ ap (λ (x : BlockRead). joined (all (h .done)) (next s (roundOf (rowAt w i)) x (all []))) got;
+                ∙ ap (λ (x : BlockRead). joined (all (h .done)) (blockThen s (roundOf (rowAt w i)) x (all []))) got;
             loads =
                 omega (
                   arith,
@@ -214,7 +214,7 @@ module _ (k : ℕ) (s : List ℕ) (used : ℕ) (earlier : BlockReference) (paren
                   loaded ∙ ap (λ (x : ℕ). pick (eqb x 0) 1 0) (sym (word-rowAt w i 7 (lit< tt))),
                 );
             met = meeting ∙ meets-next earlier parents (h .done) this (h .met) asked;
-            placed = subst (AllPlaced s) (sym works) (placed-append s (rowsFrom work from i) (row ∷ []) (h .placed) (here, tt));
+            placed = subst (AllBlockPlaces s) (sym works) (placed-append s (rowsFrom work from i) (row ∷ []) (h .placed) (here, tt));
             marked =
                 ap (reachedIn s) works
                 ∙ reachedIn-append s (rowsFrom work from i) (row ∷ [])

@@ -26,10 +26,10 @@ also b (failed n) = failed n
 also b (all blocks) = all (b ∷ blocks)
 
 -- a block of a row of this round, and those behind it
-unfoldable pub next : List ℕ → ℕ → BlockRead → Reads → Reads
-next s round (reading.BlockRead.refused n) rest = failed n
-next s round (reading.BlockRead.got r at n) rest = also (record { round = round; reference = r; includes = includesOf (bytesAt s at n) }) rest
+unfoldable pub blockThen : List ℕ → ℕ → BlockRead → Reads → Reads
+blockThen s round (reading.BlockRead.refused n) rest = failed n
+blockThen s round (reading.BlockRead.got r at n) rest = also (record { round = round; reference = r; includes = includesOf (bytesAt s at n) }) rest
 
 unfoldable pub readBlocks : ℕ → List ℕ → ℕ → List (List ℕ) → Reads
 readBlocks k s used [] = all []
-readBlocks k s used (r ∷ rows) = next s (roundOf r) (blockAt k s used (getD r 6 0)) (readBlocks k s used rows)
+readBlocks k s used (r ∷ rows) = blockThen s (roundOf r) (blockAt k s used (getD r 6 0)) (readBlocks k s used rows)

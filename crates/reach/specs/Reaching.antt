@@ -18,13 +18,13 @@ use Rattle.includes.specs.References.{same, among, any}
 
 -- ---- Working rows: whether a block is reached, and the place and the number of its bytes in the image
 
-pub record Placed (s : List ℕ) (r : List ℕ) : Type 0 where
+pub record BlockPlace (s : List ℕ) (r : List ℕ) : Type 0 where
   pub within : getD r 1 0 + getD r 2 0 ≤ length s
   pub parses : Parses (bytesAt s (getD r 1 0) (getD r 2 0))
 
-abbrev pub AllPlaced : List ℕ → List (List ℕ) → Type 0
-AllPlaced s [] = Unit {0}
-AllPlaced s (r ∷ rows) = Placed s r × AllPlaced s rows
+abbrev pub AllBlockPlaces : List ℕ → List (List ℕ) → Type 0
+AllBlockPlaces s [] = Unit {0}
+AllBlockPlaces s (r ∷ rows) = BlockPlace s r × AllBlockPlaces s rows
 
 -- the includes of each block that is reached
 unfoldable pub reachedIn : List ℕ → List (List ℕ) → List (List BlockReference)
@@ -39,7 +39,7 @@ parentsOf s bytes p rows = pick (p .later) (includesOf bytes ∷ []) (reachedIn 
 -- what a search among the parents asks for: their rows, from `from` on, are lent, and their bytes are blocks
 pub record Ready (s bytes : List ℕ) (p : Parents) (from : ℕ) (work : List ℕ) : Type 0 where
   pub lent : 8 * p .end ≤ length work
-  pub placed : AllPlaced s (between from (p .end) work)
+  pub placed : AllBlockPlaces s (between from (p .end) work)
   pub parses : Parses bytes
 
 -- ---- A round
@@ -61,7 +61,7 @@ meets earlier parents blocks = any (λ (b : Indexed). pick (isReached parents (b
 -- the working rows of blocks that were read
 abbrev pub Marked : List ℕ → List (List BlockReference) → List (List ℕ) → Reads → Type 0
 Marked s parents rows (failed n) = Unit {0}
-Marked s parents rows (all blocks) = AllPlaced s rows × (reachedIn s rows ≡ nextParents parents blocks)
+Marked s parents rows (all blocks) = AllBlockPlaces s rows × (reachedIn s rows ≡ nextParents parents blocks)
 
 -- the answer of a search of these rows, by a test of their blocks
 unfoldable pub searchedOf : (List Indexed → Bool) → List (List ℕ) → Reads → Searched

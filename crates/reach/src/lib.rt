@@ -1,3 +1,6 @@
+// Ported from block_store.rs of mahi-mahi-consensus, Copyright (c) Mysten Labs, Inc., Apache-2.0.
+// Changed: written anew in Rattle, with contracts. NOTICE says what was carried across and what was changed.
+
 // One round of the search for an ancestor (block_store.rs, linked): which of its blocks are reached from those
 // of the round above. A working row belongs to each index row: whether its block is reached, and where the
 // block's bytes stand in the image.
@@ -9,7 +12,7 @@ ghost use Rattle.laws.specs.Pick.{pick};
 ghost use Rattle.filters.specs.Segments.{between};
 ghost use Rattle.includes.specs.References.{same};
 ghost use Rattle.reach.specs.Blocks.{readBlocks};
-ghost use Rattle.reach.specs.Reaching.{AllPlaced, Ready, reachedIn, parentsOf, isReached, meets, Marked, searchedOf};
+ghost use Rattle.reach.specs.Reaching.{AllBlockPlaces, Ready, reachedIn, parentsOf, isReached, meets, Marked, searchedOf};
 use includes::same_reference;
 use types::BlockReference;
 use wal_position::WalPosition;
@@ -37,7 +40,7 @@ fn any_includes(
     to: usize,
     reference: BlockReference,
 ) -> bool
-    requires { ⌜ (8 * to ≤ length (now work)) × AllPlaced (now image) (between from to (now work)) ⌝ }
+    requires { ⌜ (8 * to ≤ length (now work)) × AllBlockPlaces (now image) (between from to (now work)) ⌝ }
     ensures { λ r. ⌜ r ≡ isReached (reachedIn (now (image .entry)) (between from to (now (work .entry)))) reference ⌝ }
 {
     let mut i = from;

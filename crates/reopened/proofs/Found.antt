@@ -22,24 +22,24 @@ use Rattle.store.specs.Store.{indexed}
 use Rattle.block_reader.specs.Reading as reading
 use Rattle.block_reader.specs.Reading.{BlockRead, got, plainBlock, ownBlockAt, blockAt}
 use Rattle.block_reader.proofs.Reading.{read-found}
-use Rattle.cut.specs.Cut.{Store, Stands, AllStand}
+use Rattle.cut.specs.Cut.{LogImage, Stands, AllStand}
 use Rattle.reopened.specs.Reopened.{unloadedRow}
-use Rattle.reopened.specs.Passing.{There, AllThere, Found}
-use Rattle.reopened.proofs.Judging.{readsOf}
+use Rattle.reopened.specs.Passing.{There, AllThere, FoundThere}
+use Rattle.reopened.proofs.Classifying.{readsOf}
 use Rattle.reopened.proofs.Rows.{key-unloaded}
-use Rattle.reopened.proofs.References.{Every, OfBlock, OfBlocks, index-every, InEntry, as-block, as-own, judged-in}
+use Rattle.reopened.proofs.References.{Every, OfBlock, OfBlocks, index-every, InEntry, as-block, as-own, classified-in}
 use Rattle.cut.proofs.Standing.{walk-stands}
 use Rattle.reopened.proofs.Reopened.{Carries, carries}
 
 -- ---- The block in an entry, as a lookup reads it
 
 -- a block with this reference
-record Holds (x : BlockRead) (r : BlockReference) : Type 0 where
+record GivesReference (x : BlockRead) (r : BlockReference) : Type 0 where
   at : ℕ
   len : ℕ
   is : x ≡ got r at len
 
-read-holds : (a : Entry) {r : BlockReference} → InEntry a r → Holds (reading.blockIn a) r
+read-holds : (a : Entry) {r : BlockReference} → InEntry a r → GivesReference (reading.blockIn a) r
 unfolding reading.blockIn plainBlock ownBlockAt pick answer
 read-holds a {r} (as-block one b e decodes same) =
     record {
@@ -59,9 +59,9 @@ read-holds a {r} (as-own three o e decodes same) =
 
 -- ---- In the log
 
-module _ (k : ℕ) (log : Store) where
+module _ (k : ℕ) (log : LogImage) where
   abbrev IsThere : Block → Type 0
-  IsThere b = Holds (blockAt k (log .image) (log .used) (b .position)) (b .reference)
+  IsThere b = GivesReference (blockAt k (log .image) (log .used) (b .position)) (b .reference)
 
   entry-there : (a : Entry) → Stands k (log .image) (log .used) a → OfBlock IsThere a
   unfolding entryOf payloadOf
@@ -69,7 +69,7 @@ module _ (k : ℕ) (log : Store) where
       let same : reading.blockIn a ≡ blockAt k (log .image) (log .used) (a .start) =
       ap (λ (payload : List ℕ). reading.blockIn (record { start = a .start; tag = a .tag; payload = payload })) (sym (stands .payload))
       ∙ read-found k (log .image) (log .used) (a .start) {e = entryOf a} (sym (stands .reads)) in
-      subst (λ (x : BlockRead). Holds x r) same (read-holds a (judged-in a i r is there))
+      subst (λ (x : BlockRead). GivesReference x r) same (read-holds a (classified-in a i r is there))
 
   entries-there : (entries : List Entry) → AllStand k (log .image) (log .used) entries → OfBlocks IsThere entries
   entries-there [] h = tt
@@ -97,7 +97,7 @@ module _ (k : ℕ) (log : Store) where
       let others : map unloadedRow rows ≡ map blockRow bs = cc in
       (row-there b (h .0) row first, rows-there bs (h .1) rows others)
 
-pub found-there : Found
+pub found-there : FoundThere
 unfolding indexRows
 found-there k least most size own log s words made =
     let h : Carries k size own log s words = carries k size own least most made in
@@ -105,4 +105,4 @@ found-there k least most size own log s words made =
     subst (λ (w : Walk). AllStand k (log .image) (log .used) (w .entries)) (h .walks) (walk-stands k (log .image) (log .used) (h .sound)) in
     rows-there k log (index (readsOf (h .entries)))
     (index-every (IsThere k log) (h .entries) (entries-there k log (h .entries) stand))
-    (indexed s words) (h .mirrors .rows)
+    (indexed s words) (h .agrees .rows)

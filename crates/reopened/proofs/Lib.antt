@@ -1,6 +1,6 @@
-pub mod Judging
+pub mod Classifying
 pub mod Rows
-pub mod Mirroring
+pub mod Agreeing
 pub mod Refusing
 pub mod References
 pub mod Passing

@@ -18,28 +18,28 @@ use Rattle.wal_reader.specs.Entries.{Entry}
 use Rattle.wal_reader.specs.Answers.{payloadOf}
 use Rattle.rows.proofs.Lexicographic.{order-cases}
 use Rattle.index.specs.Keys.{Digested}
-use Rattle.replay.specs.Items.{Item, isBlock, isOwnBlock, Judged, refuse, item, judge, Read, blockIn}
-use Rattle.replay.specs.Rules.{gather, Block, blockOf, blocks, setOf, index}
+use Rattle.replay.specs.Items.{Item, isBlock, isOwnBlock, Classified, refuse, item, classify, ReplayEntry, blockIn}
+use Rattle.replay.specs.Rules.{gather, Block, blocksIn, blocks, setOf, index}
 use Rattle.replay.specs.Recovery.{blockCheck}
 use Rattle.replay.proofs.Sets.{order}
 use Rattle.replay.proofs.Applied.{insertRow, insertRow-below, insertRow-equal, insertRow-above, references, index-same, index-block}
 use Rattle.state.specs.Holding.{AllDigested}
 use Rattle.state.proofs.Digests.{block-digested, own-digested}
 use Rattle.cut.specs.Cut.{AllStand}
-use Rattle.reopened.proofs.Judging.{readOf, readsOf, read-refused, read-judged}
-use Rattle.reopened.proofs.Mirroring.{item-no-block, Holds}
+use Rattle.reopened.proofs.Classifying.{readOf, readsOf, read-refused, read-classified}
+use Rattle.reopened.proofs.Agreeing.{item-no-block, HoldsBlock}
 use Rattle.reopened.proofs.Refusing.{AllFine}
 
 -- ---- The block of an entry, as the rules have it
 
-module _ (x : Read) where
-  block-none : blockIn (x .item) ≡ none → blockOf x ≡ []
-  unfolding blockOf
-  block-none e = rw (e, blockOf)
+module _ (x : ReplayEntry) where
+  block-none : blockIn (x .item) ≡ none → blocksIn x ≡ []
+  unfolding blocksIn
+  block-none e = rw (e, blocksIn)
 
-  block-some : {r : BlockReference} → blockIn (x .item) ≡ some r → blockOf x ≡ record { reference = r; position = x .entry .start } ∷ []
-  unfolding blockOf
-  block-some e = rw (e, blockOf)
+  block-some : {r : BlockReference} → blockIn (x .item) ≡ some r → blocksIn x ≡ record { reference = r; position = x .entry .start } ∷ []
+  unfolding blocksIn
+  block-some e = rw (e, blocksIn)
 
 -- ---- Lists of blocks
 
@@ -67,7 +67,7 @@ module _ (Q : Block → Type 0) where
 
   -- whatever block an entry holds
   abbrev pub OfBlock : Entry → Type 0
-  OfBlock a = (i : Item) (r : BlockReference) → judge a ≡ item i → blockIn i ≡ some r → Q (record { reference = r; position = a .start })
+  OfBlock a = (i : Item) (r : BlockReference) → classify a ≡ item i → blockIn i ≡ some r → Q (record { reference = r; position = a .start })
 
   abbrev pub OfBlocks : List Entry → Type 0
   OfBlocks [] = Unit {0}
@@ -84,7 +84,7 @@ module _ (Q : Block → Type 0) where
       absurd (omega arith)
 
   -- of the block that an entry is known to hold
-  pub held-holds : {a : Entry} {r : BlockReference} → Holds a r → Q (record { reference = r; position = a .start }) → OfBlock a
+  pub held-holds : {a : Entry} {r : BlockReference} → HoldsBlock a r → Q (record { reference = r; position = a .start }) → OfBlock a
   held-holds {a} {r} held q i x is there =
       let both : item (held .item) ≡ item i = sym (held .is) ∙ is in
       let same : held .item ≡ i = cc in
@@ -93,34 +93,34 @@ module _ (Q : Block → Type 0) where
       subst (λ (r : BlockReference). Q (record { reference = r; position = a .start })) refers q
 
   -- one more joins the index
-  index-one : (l : List Read) (a : Entry) → OfBlock a → Every Q (index l) → Every Q (index (l ++ readOf a))
-  index-one l a h all = from (judge a) refl
+  index-one : (l : List ReplayEntry) (a : Entry) → OfBlock a → Every Q (index l) → Every Q (index (l ++ readOf a))
+  index-one l a h all = from (classify a) refl
     where
-      held : (i : Item) (o : Option BlockReference) → judge a ≡ item i → blockIn i ≡ o → Every Q (index (l ++ (record { entry = a; item = i } ∷ [])))
+      held : (i : Item) (o : Option BlockReference) → classify a ≡ item i → blockIn i ≡ o → Every Q (index (l ++ (record { entry = a; item = i } ∷ [])))
       held i none e f =
-          let x : Read = record { entry = a; item = i } in
+          let x : ReplayEntry = record { entry = a; item = i } in
           subst (Every Q) (sym (index-same l x (block-none x f))) all
       held i (some r) e f =
-          let x : Read = record { entry = a; item = i } in
+          let x : ReplayEntry = record { entry = a; item = i } in
           let b : Block = record { reference = r; position = a .start } in
           subst (Every Q) (sym (index-block l x b (block-some x f))) (every-insertRow b (index l) (h i r e f) all)
 
-      from : (j : Judged) → judge a ≡ j → Every Q (index (l ++ readOf a))
-      from (refuse n) e = subst (λ (m : List Read). Every Q (index m)) (sym (ap (λ (m : List Read). l ++ m) (read-refused a e) ∙ append-nil l)) all
-      from (item i) e = subst (λ (m : List Read). Every Q (index m)) (ap (λ (m : List Read). l ++ m) (sym (read-judged a e))) (held i (blockIn i) e refl)
+      from : (j : Classified) → classify a ≡ j → Every Q (index (l ++ readOf a))
+      from (refuse n) e = subst (λ (m : List ReplayEntry). Every Q (index m)) (sym (ap (λ (m : List ReplayEntry). l ++ m) (read-refused a e) ∙ append-nil l)) all
+      from (item i) e = subst (λ (m : List ReplayEntry). Every Q (index m)) (ap (λ (m : List ReplayEntry). l ++ m) (sym (read-classified a e))) (held i (blockIn i) e refl)
 
-  index-all : (l : List Read) (entries : List Entry) → OfBlocks entries → Every Q (index l) → Every Q (index (l ++ readsOf entries))
+  index-all : (l : List ReplayEntry) (entries : List Entry) → OfBlocks entries → Every Q (index l) → Every Q (index (l ++ readsOf entries))
   unfolding readsOf gather
-  index-all l [] h all = subst (λ (m : List Read). Every Q (index m)) (sym (append-nil l)) all
+  index-all l [] h all = subst (λ (m : List ReplayEntry). Every Q (index m)) (sym (append-nil l)) all
   index-all l (a ∷ later) h all =
-      subst (λ (m : List Read). Every Q (index m)) (append-assoc l (readOf a) (gather readOf later))
+      subst (λ (m : List ReplayEntry). Every Q (index m)) (append-assoc l (readOf a) (gather readOf later))
       (index-all (l ++ readOf a) later (h .1) (index-one l a (h .0) all))
 
   pub index-every : (entries : List Entry) → OfBlocks entries → Every Q (index (readsOf entries))
   unfolding index blocks gather setOf
   index-every entries h = index-all [] entries h tt
 
--- ---- The block in an entry, by how it is judged
+-- ---- The block in an entry, by how it is classified
 
 pub data InEntry (a : Entry) (r : BlockReference) : Type 0 where
   as-block : a .tag ≡ 1 → (b : BlockValue) (e : ℕ) → block (a .payload) 0 ≡ got b e → b .reference ≡ r → InEntry a r
@@ -137,9 +137,9 @@ made-found (got v e) n make refers holds i r is there =
     let same : some (refers v) ≡ some r = sym (holds v) ∙ ap blockIn made ∙ there in
     (v, e, refl, cc)
 
-pub judged-in : (a : Entry) (i : Item) (r : BlockReference) → judge a ≡ item i → blockIn i ≡ some r → InEntry a r
-unfolding judge pick blockIn
-judged-in a i r is there =
+pub classified-in : (a : Entry) (i : Item) (r : BlockReference) → classify a ≡ item i → blockIn i ≡ some r → InEntry a r
+unfolding classify pick blockIn
+classified-in a i r is there =
     ⊎-elim
     (λ one.
     let f =
@@ -170,7 +170,7 @@ check-below size own before r passed =
     (λ f. f .1)
     (leb-cases size (r .authority))
 
-pub fine-below : (size own : ℕ) (before : List Read) (later : List Entry) → AllFine size own before later
+pub fine-below : (size own : ℕ) (before : List ReplayEntry) (later : List Entry) → AllFine size own before later
     → OfBlocks (λ (b : Block). b .reference .authority < size) later
 fine-below size own before [] h = tt
 fine-below size own before (a ∷ later) h =
@@ -192,7 +192,7 @@ stand-bytes k s used all [] h = tt
 stand-bytes k s used all (a ∷ later) h = (subst AllBytes (h .0 .payload) (bytes-part s _ _ all), stand-bytes k s used all later (h .1))
 
 entry-digested : (a : Entry) → AllBytes (a .payload) → OfBlock OfBytes a
-entry-digested a all i r is there = from (judged-in a i r is there)
+entry-digested a all i r is there = from (classified-in a i r is there)
   where
     from : InEntry a r → Digested r
     from (as-block one b e decodes same) = subst Digested same (block-digested (a .payload) all 0 decodes)

@@ -19,20 +19,20 @@ use Rattle.commits.specs.Records.{CommitsValue, commit}
 use Rattle.wal_position.specs.Checks.{unless}
 use Rattle.wal_reader.specs.Entries.{Entry}
 use Rattle.index.specs.Keys.{existsAt}
-use Rattle.replay.specs.Items.{Item, isBlock, isPayload, isOwnBlock, isState, isCommit, Judged, refuse, item, judge, Read, blockIn}
+use Rattle.replay.specs.Items.{Item, isBlock, isPayload, isOwnBlock, isState, isCommit, Classified, refuse, item, classify, ReplayEntry, blockIn}
 use Rattle.replay.specs.Rules.{gather, blocks, pending, unprocessed, committed, index}
-use Rattle.replay.specs.Recovery.{Lent, Scanned, scanned, refusedAt, scan, present, entryCheck, blockCheck, rowsCheck, badPayload, refused, recovered, decoded, replayed}
+use Rattle.replay.specs.Recovery.{Lent, Scanned, scanned, refusedAt, scan, hasBlockIn, entryCheck, blockCheck, rowsCheck, badPayload, refused, recovered, decoded, replayed}
 use Rattle.committee.specs.Committee.{committeeCheck}
 use Rattle.wal.specs.Walk.{Stop, stopped}
 use Rattle.replay_log.proofs.Scanning.{concluded, replayedFrom, replayed-whole}
 use Rattle.replay.proofs.Applied.{present-index}
 use Rattle.state.specs.Holding.{blockNumber}
 use Rattle.state.proofs.BlockEntries.{exists-present}
-use Rattle.state.proofs.Checks.{check-judged, check-block, no-block}
+use Rattle.state.proofs.Checks.{check-classified, check-block, no-block}
 use Rattle.replay_log.specs.Answers.{indexRows}
-use Rattle.reopened.specs.Reopened.{unloadedRow, AllJudged, entriesIn, Cause, by-committee, by-entry, by-rows, by-payload}
-use Rattle.reopened.proofs.Judging.{readOf, readsOf, read-judged, check-item}
-use Rattle.reopened.proofs.Mirroring.{item-no-block, Holds}
+use Rattle.reopened.specs.Reopened.{unloadedRow, AllClassified, entriesIn, Cause, by-committee, by-entry, by-rows, by-payload}
+use Rattle.reopened.proofs.Classifying.{readOf, readsOf, read-classified, check-item}
+use Rattle.reopened.proofs.Agreeing.{item-no-block, HoldsBlock}
 
 -- ---- 13 and 14, by the store's rows
 
@@ -43,11 +43,11 @@ exists-unloaded own round (r ∷ rows) =
     rw (getD-set-other r 7 1 0 0 (λ e. omega arith), getD-set-other r 7 0 0 0 (λ e. omega arith), exists-unloaded own round rows)
 
 -- what insert checks, recovery checks
-pub number-checked : (size own : ℕ) (rows : List (List ℕ)) (l : List Read) (r : BlockReference) → map unloadedRow rows ≡ indexRows l
+pub number-checked : (size own : ℕ) (rows : List (List ℕ)) (l : List ReplayEntry) (r : BlockReference) → map unloadedRow rows ≡ indexRows l
     → blockNumber size own rows r ≡ blockCheck size own (blocks l) (some r)
 unfolding blockNumber blockCheck indexRows
 number-checked size own rows l r h =
-    let same : existsAt own (r .round) rows ≡ present own (r .round) (blocks l) =
+    let same : existsAt own (r .round) rows ≡ hasBlockIn own (r .round) (blocks l) =
     sym (exists-unloaded own (r .round) rows)
     ∙ ap (existsAt own (r .round)) h
     ∙ exists-present own (r .round) (index l)
@@ -56,9 +56,9 @@ number-checked size own rows l r h =
 
 -- ---- An entry that is refused for its tag, its commit or the tables alone
 
-pub record Fine (size own : ℕ) (before : List Read) (a : Entry) : Type 0 where
-  pub judged : (m : ℕ) → judge a ≡ refuse m → (m ≡ 8) ⊎ (m ≡ 12)
-  pub passes : (i : Item) → judge a ≡ item i → blockCheck size own (blocks before) (blockIn i) ≡ 0
+pub record Fine (size own : ℕ) (before : List ReplayEntry) (a : Entry) : Type 0 where
+  pub classified : (m : ℕ) → classify a ≡ refuse m → (m ≡ 8) ⊎ (m ≡ 12)
+  pub passes : (i : Item) → classify a ≡ item i → blockCheck size own (blocks before) (blockIn i) ≡ 0
 
 module _ (a : Entry) (one : a .tag ≡ 1 → ⊥) (three : a .tag ≡ 3 → ⊥) where
   commit-refused : (x : Res CommitsValue) {m : ℕ} → answer (refuse 12) (λ (c : CommitsValue) e. item (isCommit c)) x ≡ refuse m → m ≡ 12
@@ -66,8 +66,8 @@ module _ (a : Entry) (one : a .tag ≡ 1 → ⊥) (three : a .tag ≡ 3 → ⊥)
   commit-refused bad {m} h = let same : 12 ≡ m = cc in sym same
   commit-refused (got c e) h = let z : _≡_ {A = ℕ} 0 1 = cc in absurd (omega arith)
 
-  other-refused : (m : ℕ) → judge a ≡ refuse m → (m ≡ 8) ⊎ (m ≡ 12)
-  unfolding judge pick
+  other-refused : (m : ℕ) → classify a ≡ refuse m → (m ≡ 8) ⊎ (m ≡ 12)
+  unfolding classify pick
   other-refused m h =
       ⊎-elim
       (λ two.
@@ -95,16 +95,16 @@ module _ (a : Entry) (one : a .tag ≡ 1 → ⊥) (three : a .tag ≡ 3 → ⊥)
       (eqb-cases (a .tag) 4))
       (eqb-cases (a .tag) 2)
 
-  pub fine-other : (size own : ℕ) (before : List Read) → Fine size own before a
+  pub fine-other : (size own : ℕ) (before : List ReplayEntry) → Fine size own before a
   fine-other size own before =
-      record { judged = other-refused; passes = λ i h. no-block size own before i (item-no-block a one three h) }
+      record { classified = other-refused; passes = λ i h. no-block size own before i (item-no-block a one three h) }
 
 -- a block that insert has checked
-pub fine-inserted : (size own : ℕ) (before : List Read) (a : Entry) {r : BlockReference} → (held : Holds a r)
+pub fine-inserted : (size own : ℕ) (before : List ReplayEntry) (a : Entry) {r : BlockReference} → (held : HoldsBlock a r)
     → blockCheck size own (blocks before) (some r) ≡ 0 → Fine size own before a
 fine-inserted size own before a held checks =
     record {
-      judged =
+      classified =
           λ m h.
           let both : refuse m ≡ item (held .item) = sym h ∙ held .is in
           let z : _≡_ {A = ℕ} 0 1 = cc in
@@ -118,16 +118,16 @@ fine-inserted size own before a held checks =
 
 -- ---- A list of such entries
 
-abbrev pub AllFine : ℕ → ℕ → List Read → List Entry → Type 0
+abbrev pub AllFine : ℕ → ℕ → List ReplayEntry → List Entry → Type 0
 AllFine size own before [] = Unit {0}
 AllFine size own before (a ∷ later) = Fine size own before a × AllFine size own (before ++ readOf a) later
 
-pub fine-one : (size own : ℕ) (before : List Read) (later : List Entry) (a : Entry) → AllFine size own before later
+pub fine-one : (size own : ℕ) (before : List ReplayEntry) (later : List Entry) (a : Entry) → AllFine size own before later
     → Fine size own (before ++ readsOf later) a → AllFine size own before (later ++ (a ∷ []))
 unfolding readsOf gather
-fine-one size own before [] a h f = (subst (λ (l : List Read). Fine size own l a) (append-nil before) f, tt)
+fine-one size own before [] a h f = (subst (λ (l : List ReplayEntry). Fine size own l a) (append-nil before) f, tt)
 fine-one size own before (b ∷ later) a h f =
-    (h .0, fine-one size own (before ++ readOf b) later a (h .1) (subst (λ (l : List Read). Fine size own l a) (sym (append-assoc before (readOf b) (gather readOf later))) f))
+    (h .0, fine-one size own (before ++ readOf b) later a (h .1) (subst (λ (l : List ReplayEntry). Fine size own l a) (sym (append-assoc before (readOf b) (gather readOf later))) f))
 
 -- ---- The scan
 
@@ -137,7 +137,7 @@ unfolding pick
 fifteen-else true x h = h
 fifteen-else false x h = inr refl
 
-rows-refused : (lent : Lent) (l : List Read) → (rowsCheck lent l ≡ 0) ⊎ (rowsCheck lent l ≡ 15)
+rows-refused : (lent : Lent) (l : List ReplayEntry) → (rowsCheck lent l ≡ 0) ⊎ (rowsCheck lent l ≡ 15)
 unfolding rowsCheck
 rows-refused lent l =
     fifteen-else (leb (length (pending l)) (lent .pending)) _
@@ -153,57 +153,57 @@ refused-rows (suc n) i {m} h e =
     ⊎-elim (λ (z : suc n ≡ 0). absurd (omega arith)) (λ (f : suc n ≡ 15). (sym same ∙ f, f)) h
 
 -- an entry that is refused: by itself, or for the rows with it
-data Refusal (lent : Lent) (before : List Read) (a : Entry) : ℕ → Type 0 where
-  by-itself : {n : ℕ} → (n ≡ 8) ⊎ (n ≡ 12) → judge a ≡ refuse n → Refusal lent before a n
-  for-rows : (i : Item) → judge a ≡ item i → rowsCheck lent (before ++ (record { entry = a; item = i } ∷ [])) ≡ 15 → Refusal lent before a 15
+data Refusal (lent : Lent) (before : List ReplayEntry) (a : Entry) : ℕ → Type 0 where
+  by-itself : {n : ℕ} → (n ≡ 8) ⊎ (n ≡ 12) → classify a ≡ refuse n → Refusal lent before a n
+  for-rows : (i : Item) → classify a ≡ item i → rowsCheck lent (before ++ (record { entry = a; item = i } ∷ [])) ≡ 15 → Refusal lent before a 15
 
-entry-refused : (size own : ℕ) (lent : Lent) (before : List Read) (a : Entry) → Fine size own before a → {m : ℕ}
+entry-refused : (size own : ℕ) (lent : Lent) (before : List ReplayEntry) (a : Entry) → Fine size own before a → {m : ℕ}
     → entryCheck size own lent before a ≡ refuse m → Refusal lent before a m
 unfolding entryCheck unless
-entry-refused size own lent before a fine {m} h = from (judge a) refl
+entry-refused size own lent before a fine {m} h = from (classify a) refl
   where
-    from : (j : Judged) → judge a ≡ j → Refusal lent before a m
+    from : (j : Classified) → classify a ≡ j → Refusal lent before a m
     from (refuse n) e =
-        let both : refuse n ≡ refuse m = sym (check-judged size own lent before a e) ∙ h in
+        let both : refuse n ≡ refuse m = sym (check-classified size own lent before a e) ∙ h in
         let same : n ≡ m = cc in
-        subst (Refusal lent before a) same (by-itself (fine .judged n e) e)
+        subst (Refusal lent before a) same (by-itself (fine .classified n e) e)
     from (item i) e =
         let rows : ℕ = rowsCheck lent (before ++ (record { entry = a; item = i } ∷ [])) in
         let is : unless rows refuse (item i) ≡ refuse m = rw (e, fine .passes i e) at h in
         let full = refused-rows rows i (rows-refused lent (before ++ (record { entry = a; item = i } ∷ []))) is in
         subst (Refusal lent before a) (sym (full .0)) (for-rows i e (full .1))
 
-judged-one : (l : List Read) (x : Read) → AllJudged l → judge (x .entry) ≡ item (x .item) → AllJudged (l ++ (x ∷ []))
-judged-one [] x h j = (j, tt)
-judged-one (y ∷ l) x h j = (h .0, judged-one l x (h .1) j)
+classified-one : (l : List ReplayEntry) (x : ReplayEntry) → AllClassified l → classify (x .entry) ≡ item (x .item) → AllClassified (l ++ (x ∷ []))
+classified-one [] x h j = (j, tt)
+classified-one (y ∷ l) x h j = (h .0, classified-one l x (h .1) j)
 
 -- an entry more
-entries-one : (l : List Read) (x : Read) (later : List Entry) → entriesIn (l ++ (x ∷ [])) ++ later ≡ entriesIn l ++ (x .entry ∷ later)
+entries-one : (l : List ReplayEntry) (x : ReplayEntry) (later : List Entry) → entriesIn (l ++ (x ∷ [])) ++ later ≡ entriesIn l ++ (x .entry ∷ later)
 entries-one l x later =
-    ap (λ (m : List Entry). m ++ later) (map-append (λ (y : Read). y .entry) l (x ∷ [])) ∙ append-assoc (entriesIn l) (x .entry ∷ []) later
+    ap (λ (m : List Entry). m ++ later) (map-append (λ (y : ReplayEntry). y .entry) l (x ∷ [])) ∙ append-assoc (entriesIn l) (x .entry ∷ []) later
 
 module _ (size own : ℕ) (lent : Lent) (all : List Entry) where
   -- of an entry behind those that were scanned
-  entry-cause : (before : List Read) (a : Entry) (later : List Entry) → entriesIn before ++ (a ∷ later) ≡ all → AllJudged before
+  entry-cause : (before : List ReplayEntry) (a : Entry) (later : List Entry) → entriesIn before ++ (a ∷ later) ≡ all → AllClassified before
       → {n : ℕ} → Refusal lent before a n → Cause size own lent all n (a .start)
-  entry-cause before a later done judged (by-itself which is) =
+  entry-cause before a later done classified (by-itself which is) =
       by-entry which a (subst (List·Memᴰ a) done (Memᴰ·append-right (entriesIn before) (List·Memᴰ·head refl))) is
-  entry-cause before a later done judged (for-rows i is full) =
-      let x : Read = record { entry = a; item = i } in
-      by-rows before x later (entries-one before x later ∙ done) (judged-one before x judged is) full
+  entry-cause before a later done classified (for-rows i is full) =
+      let x : ReplayEntry = record { entry = a; item = i } in
+      by-rows before x later (entries-one before x later ∙ done) (classified-one before x classified is) full
 
-  scan-refused : (before : List Read) (later : List Entry) → entriesIn before ++ later ≡ all → AllJudged before → AllFine size own before later
+  scan-refused : (before : List ReplayEntry) (later : List Entry) → entriesIn before ++ later ≡ all → AllClassified before → AllFine size own before later
       → {n p : ℕ} → scan size own lent before later ≡ refusedAt n p → Cause size own lent all n p
   unfolding scan
-  scan-refused before [] done judged fine h = let z : _≡_ {A = ℕ} 0 1 = cc in absurd (omega arith)
-  scan-refused before (a ∷ later) done judged fine {n} {p} h =
+  scan-refused before [] done classified fine h = let z : _≡_ {A = ℕ} 0 1 = cc in absurd (omega arith)
+  scan-refused before (a ∷ later) done classified fine {n} {p} h =
       from (entryCheck size own lent before a) refl
       (λ i is same on.
       scan-refused (before ++ (record { entry = a; item = i } ∷ [])) later (entries-one before (record { entry = a; item = i }) later ∙ done)
-      (judged-one before (record { entry = a; item = i }) judged is) (subst (λ (l : List Read). AllFine size own l later) same (fine .1)) on)
+      (classified-one before (record { entry = a; item = i }) classified is) (subst (λ (l : List ReplayEntry). AllFine size own l later) same (fine .1)) on)
     where
-      from : (j : Judged) → entryCheck size own lent before a ≡ j
-          → ((i : Item) → judge a ≡ item i → before ++ readOf a ≡ before ++ (record { entry = a; item = i } ∷ [])
+      from : (j : Classified) → entryCheck size own lent before a ≡ j
+          → ((i : Item) → classify a ≡ item i → before ++ readOf a ≡ before ++ (record { entry = a; item = i } ∷ [])
           → scan size own lent (before ++ (record { entry = a; item = i } ∷ [])) later ≡ refusedAt n p → Cause size own lent all n p)
           → Cause size own lent all n p
       from (refuse m) e rest =
@@ -211,21 +211,21 @@ module _ (size own : ℕ) (lent : Lent) (all : List Entry) where
           let number : m ≡ n = cc in
           let start : a .start ≡ p = cc in
           subst (λ (n : ℕ). Cause size own lent all n p) number
-          (subst (Cause size own lent all m) start (entry-cause before a later done judged (entry-refused size own lent before a (fine .0) e)))
+          (subst (Cause size own lent all m) start (entry-cause before a later done classified (entry-refused size own lent before a (fine .0) e)))
       from (item i) e rest =
-          let is : judge a ≡ item i = check-item size own lent before a e in
+          let is : classify a ≡ item i = check-item size own lent before a e in
           let on : scan size own lent (before ++ (record { entry = a; item = i } ∷ [])) later ≡ refusedAt n p = rw e at h in
-          rest i is (ap (λ (m : List Read). before ++ m) (read-judged a is)) on
+          rest i is (ap (λ (m : List ReplayEntry). before ++ m) (read-classified a is)) on
 
 -- ---- A scan that is not refused: its entries are of that kind
 
 module _ (size own : ℕ) (lent : Lent) where
-  entry-fine : (before : List Read) (a : Entry) {i : Item} → entryCheck size own lent before a ≡ item i → Fine size own before a
+  entry-fine : (before : List ReplayEntry) (a : Entry) {i : Item} → entryCheck size own lent before a ≡ item i → Fine size own before a
   entry-fine before a {i} h =
       record {
-        judged =
+        classified =
             λ m e.
-            let both : refuse m ≡ item i = sym (check-judged size own lent before a e) ∙ h in
+            let both : refuse m ≡ item i = sym (check-classified size own lent before a e) ∙ h in
             let z : _≡_ {A = ℕ} 0 1 = cc in
             absurd (omega arith);
         passes =
@@ -239,41 +239,41 @@ module _ (size own : ℕ) (lent : Lent) where
             (eqb-cases (blockCheck size own (blocks before) (blockIn j)) 0);
       }
 
-  pub scan-fine : (before : List Read) (later : List Entry) {l : List Read} → scan size own lent before later ≡ scanned l → AllFine size own before later
+  pub scan-fine : (before : List ReplayEntry) (later : List Entry) {l : List ReplayEntry} → scan size own lent before later ≡ scanned l → AllFine size own before later
   unfolding scan
   scan-fine before [] h = tt
   scan-fine before (a ∷ later) {l} h =
       from (entryCheck size own lent before a) refl (λ x on. scan-fine (before ++ (x ∷ [])) later on)
     where
-      from : (j : Judged) → entryCheck size own lent before a ≡ j
-          → ((x : Read) → scan size own lent (before ++ (x ∷ [])) later ≡ scanned l → AllFine size own (before ++ (x ∷ [])) later)
+      from : (j : Classified) → entryCheck size own lent before a ≡ j
+          → ((x : ReplayEntry) → scan size own lent (before ++ (x ∷ [])) later ≡ scanned l → AllFine size own (before ++ (x ∷ [])) later)
           → AllFine size own before (a ∷ later)
       from (refuse n) e rest =
           let both : refusedAt n (a .start) ≡ scanned l = rw e at h in
           let z : _≡_ {A = ℕ} 0 1 = cc in
           absurd (omega arith)
       from (item i) e rest =
-          let x : Read = record { entry = a; item = i } in
+          let x : ReplayEntry = record { entry = a; item = i } in
           let on : scan size own lent (before ++ (x ∷ [])) later ≡ scanned l = rw e at h in
           let same : before ++ (x ∷ []) ≡ before ++ readOf a =
-          ap (λ (m : List Read). before ++ m) (sym (read-judged a (check-item size own lent before a e))) in
-          (entry-fine before a e, subst (λ (m : List Read). AllFine size own m later) same (rest x on))
+          ap (λ (m : List ReplayEntry). before ++ m) (sym (read-classified a (check-item size own lent before a e))) in
+          (entry-fine before a e, subst (λ (m : List ReplayEntry). AllFine size own m later) same (rest x on))
 
 -- ---- A payload that does not decode
 
 -- a read of the list that starts at p
-record Undecoded (l : List Read) (p : ℕ) : Type 0 where
-  read : Read
+record Undecoded (l : List ReplayEntry) (p : ℕ) : Type 0 where
+  read : ReplayEntry
   there : List·Memᴰ read l
   is : read .item ≡ isPayload
   undecoded : payload (read .entry .payload) 0 ≡ bad
   start : read .entry .start ≡ p
 
-later-undecoded : (x : Read) {l : List Read} {p : ℕ} → Undecoded l p → Undecoded (x ∷ l) p
+later-undecoded : (x : ReplayEntry) {l : List ReplayEntry} {p : ℕ} → Undecoded l p → Undecoded (x ∷ l) p
 later-undecoded x u =
     record { read = u .read; there = List·Memᴰ·tail (u .there); is = u .is; undecoded = u .undecoded; start = u .start }
 
-bad-undecoded : (l : List Read) {p : ℕ} → badPayload l ≡ some p → Undecoded l p
+bad-undecoded : (l : List ReplayEntry) {p : ℕ} → badPayload l ≡ some p → Undecoded l p
 unfolding badPayload answer
 bad-undecoded [] h = let z : _≡_ {A = ℕ} 0 1 = cc in absurd (omega arith)
 bad-undecoded (x ∷ l) {p} h = by (λ g. later-undecoded x (bad-undecoded l g)) (x .item) refl (payload (x .entry .payload) 0) refl
@@ -291,20 +291,20 @@ bad-undecoded (x ∷ l) {p} h = by (λ g. later-undecoded x (bad-undecoded l g))
     by later (isCommit c) is y e = later (rw is at h)
 
 -- what a scan that is not refused has read
-scan-judged : (size own : ℕ) (lent : Lent) (before : List Read) (later : List Entry) {l : List Read} → scan size own lent before later ≡ scanned l
-    → AllJudged before → (entriesIn l ≡ entriesIn before ++ later) × AllJudged l
+scan-classified : (size own : ℕ) (lent : Lent) (before : List ReplayEntry) (later : List Entry) {l : List ReplayEntry} → scan size own lent before later ≡ scanned l
+    → AllClassified before → (entriesIn l ≡ entriesIn before ++ later) × AllClassified l
 unfolding scan
-scan-judged size own lent before [] {l} h judged =
+scan-classified size own lent before [] {l} h classified =
     let same : before ≡ l = cc in
-    (ap entriesIn (sym same) ∙ sym (append-nil (entriesIn before)), subst AllJudged same judged)
-scan-judged size own lent before (a ∷ later) {l} h judged =
+    (ap entriesIn (sym same) ∙ sym (append-nil (entriesIn before)), subst AllClassified same classified)
+scan-classified size own lent before (a ∷ later) {l} h classified =
     from (entryCheck size own lent before a) refl
-    (λ i is on. scan-judged size own lent (before ++ (record { entry = a; item = i } ∷ [])) later on (judged-one before (record { entry = a; item = i }) judged is))
+    (λ i is on. scan-classified size own lent (before ++ (record { entry = a; item = i } ∷ [])) later on (classified-one before (record { entry = a; item = i }) classified is))
   where
-    from : (j : Judged) → entryCheck size own lent before a ≡ j
-        → ((i : Item) → judge a ≡ item i → scan size own lent (before ++ (record { entry = a; item = i } ∷ [])) later ≡ scanned l
-        → (entriesIn l ≡ entriesIn (before ++ (record { entry = a; item = i } ∷ [])) ++ later) × AllJudged l)
-        → (entriesIn l ≡ entriesIn before ++ (a ∷ later)) × AllJudged l
+    from : (j : Classified) → entryCheck size own lent before a ≡ j
+        → ((i : Item) → classify a ≡ item i → scan size own lent (before ++ (record { entry = a; item = i } ∷ [])) later ≡ scanned l
+        → (entriesIn l ≡ entriesIn (before ++ (record { entry = a; item = i } ∷ [])) ++ later) × AllClassified l)
+        → (entriesIn l ≡ entriesIn before ++ (a ∷ later)) × AllClassified l
     from (refuse n) e rest =
         let both : refusedAt n (a .start) ≡ scanned l = rw e at h in
         let z : _≡_ {A = ℕ} 0 1 = cc in
@@ -317,10 +317,10 @@ scan-judged size own lent before (a ∷ later) {l} h judged =
 -- ---- Recovery
 
 module _ (size own : ℕ) (lent : Lent) (entries : List Entry) where
-  decoded-refused : (w : Stop) (e : ℕ) (l : List Read) {n p : ℕ} → entriesIn l ≡ entries → AllJudged l → decoded w e l ≡ refused n p
+  decoded-refused : (w : Stop) (e : ℕ) (l : List ReplayEntry) {n p : ℕ} → entriesIn l ≡ entries → AllClassified l → decoded w e l ≡ refused n p
       → Cause size own lent entries n p
   unfolding decoded
-  decoded-refused w e l {n} {p} these judged h = from (badPayload (pending l)) refl
+  decoded-refused w e l {n} {p} these classified h = from (badPayload (pending l)) refl
     where
       from : (o : Option ℕ) → badPayload (pending l) ≡ o → Cause size own lent entries n p
       from none f =
@@ -333,7 +333,7 @@ module _ (size own : ℕ) (lent : Lent) (entries : List Entry) where
           let place : q ≡ p = cc in
           let u = bad-undecoded (pending l) f in
           subst (λ (n : ℕ). Cause size own lent entries n p) number
-          (subst (Cause size own lent entries 11) (u .start ∙ place) (by-payload l these judged (u .read) (u .there) (u .is) (u .undecoded)))
+          (subst (Cause size own lent entries 11) (u .start ∙ place) (by-payload l these classified (u .read) (u .there) (u .is) (u .undecoded)))
 
   replay-refused : AllFine size own [] entries → (word : Stop) (end : ℕ) {n p : ℕ}
       → replayed size own lent (record { entries = entries; ending = stopped word end }) ≡ refused n p → Cause size own lent entries n p
@@ -352,7 +352,7 @@ module _ (size own : ℕ) (lent : Lent) (entries : List Entry) where
           (subst (Cause size own lent entries m) place (scan-refused size own lent entries [] entries refl tt fine s))
       from (scanned l) s =
           let both : decoded word end l ≡ refused n p = rw s at whole in
-          let read = scan-judged size own lent [] entries s tt in
+          let read = scan-classified size own lent [] entries s tt in
           decoded-refused word end l (read .0) (read .1) both
 
   pub recover-refused : AllFine size own [] entries → (word : Stop) (end : ℕ) {n p : ℕ}

@@ -18,7 +18,7 @@ use Rattle.wal_writer.proofs.Places.{accepted-says}
 use Rattle.wal.proofs.Prefixes.{onwards, walk-end, Resumes, walk-resumes}
 use Rattle.rows.specs.Rows.{rowsOf}
 use Rattle.tables.specs.Tables.{upserted}
-use Rattle.replay.specs.Items.{Read}
+use Rattle.replay.specs.Items.{ReplayEntry}
 use Rattle.replay.specs.Rules.{gather, blocks, setOf, index}
 use Rattle.replay.specs.Recovery.{blockCheck, replayed, Lent, recover, refused, recovered}
 use Rattle.committee.specs.Committee.{committeeCheck}
@@ -41,14 +41,14 @@ use Rattle.insert.proofs.Kept.{Passed, accepted-passed}
 use Rattle.insert.proofs.Numbers.{Put, zero-accepted}
 use Rattle.query.specs.Query.{counted}
 use Rattle.cut.specs.PlainLog.{Append}
-use Rattle.cut.specs.Cut.{Store, usedAfter, answerOf, next}
+use Rattle.cut.specs.Cut.{LogImage, usedAfter, answerOf, afterAppend}
 use Rattle.cut.proofs.Growing.{walk-grows, grown-long}
 use Rattle.cut.proofs.Standing.{walk-stands}
-use Rattle.reopened.specs.Reopened.{Made, new, opens, appends, inserts, cleans, looks, lends, unloadedRow, Mirrors, Cause, Reopened, Refusals}
+use Rattle.reopened.specs.Reopened.{Reachable, new, opens, appends, inserts, cleans, looks, lends, unloadedRow, AgreesWith, Cause, Reopened, Refusals}
 use Rattle.replay_log.proofs.Accepted.{Replayed, replay-scanned, unless-recovered}
-use Rattle.reopened.proofs.Judging.{readOf, readsOf, read-judged, reads-one, replay-reads}
+use Rattle.reopened.proofs.Classifying.{readOf, readsOf, read-classified, reads-one, replay-reads}
 use Rattle.reopened.proofs.Rows.{cleaned-rows}
-use Rattle.reopened.proofs.Mirroring.{no-block-read, insert-holds, mirrors-block, mirrors-opened, mirrors-recovered}
+use Rattle.reopened.proofs.Agreeing.{no-block-read, insert-holds, agrees-block, agrees-opened, agrees-recovered}
 use Rattle.reopened.proofs.Refusing.{Fine, AllFine, number-checked, fine-other, fine-inserted, fine-one, scan-fine, recover-refused}
 use Rattle.reopened.proofs.References.{OfBlock, OfBlocks, OfBytes, blocks-one, no-block-holds, held-holds, every-digested, index-every, stand-bytes, entries-digested}
 
@@ -59,16 +59,16 @@ tag-small tag which = ⊎-elim (λ (one : tag ≡ 1). omega arith) (λ (three : 
 
 module _ (k : ℕ) (size own : ℕ) where
   -- the walk lists the whole log, and the store's rows and summary are of its entries
-  pub record Carries (log : Store) (s : BlockStore) (words : List ℕ) : Type 0 where
+  pub record Carries (log : LogImage) (s : BlockStore) (words : List ℕ) : Type 0 where
     pub entries : List Entry
     pub sound : Sound k (log .used) (length (log .image))
     pub walks : walkAt k (log .image) (log .used) 0 0 ≡ record { entries = entries; ending = stopped END (log .used) }
-    pub mirrors : Mirrors size own (readsOf entries) s words
+    pub agrees : AgreesWith size own (readsOf entries) s words
     pub digested : OfBlocks OfBytes entries
     pub fine : AllFine size own [] entries
 
   -- the digests of its index
-  pub all-digested : {log : Store} {s : BlockStore} {words : List ℕ} (h : Carries log s words) → AllDigested (references (index (readsOf (h .entries))))
+  pub all-digested : {log : LogImage} {s : BlockStore} {words : List ℕ} (h : Carries log s words) → AllDigested (references (index (readsOf (h .entries))))
   all-digested h = every-digested (index (readsOf (h .entries))) (index-every OfBytes (h .entries) (h .digested))
 
   -- ---- One call each
@@ -87,15 +87,15 @@ module _ (k : ℕ) (size own : ℕ) where
         entries = [];
         sound = record { low = low; high = high; within = omega arith; most = omega arith };
         walks = walk-end k image 0;
-        mirrors =
-            subst (λ (l : List Read). Mirrors size own l (openedOf size own emptyReplay) words) (sym nothing-read)
-            (subst (λ (r : Replay). Mirrors size own [] (openedOf size own r) words) (replay-empty own) (mirrors-opened size own [] words (no-rows words)));
+        agrees =
+            subst (λ (l : List ReplayEntry). AgreesWith size own l (openedOf size own emptyReplay) words) (sym nothing-read)
+            (subst (λ (r : Replay). AgreesWith size own [] (openedOf size own r) words) (replay-empty own) (agrees-opened size own [] words (no-rows words)));
         digested = tt;
         fine = tt;
       }
 
   -- a start, from a log of whatever bytes
-  module _ (image : List ℕ) (all : AllBytes image) (used : ℕ) (p u c i p′ u′ c′ i′ : List ℕ) (r : Recovered) (word : Stop) (e : ℕ) (l : List Read)
+  module _ (image : List ℕ) (all : AllBytes image) (used : ℕ) (p u c i p′ u′ c′ i′ : List ℕ) (r : Recovered) (word : Stop) (e : ℕ) (l : List ReplayEntry)
       (is : recover k image used size own (lentOf p u c i) ≡ recovered word e l) (answers : Answers used own (recovered word e l) r p u c i p′ u′ c′ i′) where
     log-passed : (logCheck k used (length image) ≡ 0) × (unless (committeeCheck size own) (λ n. refused n 0) (replayed size own (lentOf p u c i) (walkAt k image used 0 0)) ≡ recovered word e l)
     unfolding recover
@@ -140,28 +140,28 @@ module _ (k : ℕ) (size own : ℕ) where
               resumed .same image e (omega arith) refl
               ∙ ap (onwards listed) (walk-end k image e)
               ∙ (λ j. record { entries = append-nil listed j; ending = stopped END e });
-          mirrors =
-              subst (λ (m : List Read). Mirrors size own m (openedOf size own (r .replay)) i′)
+          agrees =
+              subst (λ (m : List ReplayEntry). AgreesWith size own m (openedOf size own (r .replay)) i′)
               (replay-reads size own (lentOf p u c i) (walkAt k image used 0 0) replays)
-              (mirrors-recovered size own l used p u c i p′ u′ c′ i′ r word e answers);
+              (agrees-recovered size own l used p u c i p′ u′ c′ i′ r word e answers);
           digested = entries-digested listed (stand-bytes k image used all listed (walk-stands k image used open-sound));
           fine = scan-fine size own (lentOf p u c i) [] listed (scanned-so .scans);
         }
 
   -- the rows and the summary of entries with the same index and summary
-  mirrors-same : {l m : List Read} {s : BlockStore} {words : List ℕ} → Mirrors size own l s words → index m ≡ index l → summaryOf own m ≡ summaryOf own l
-      → Mirrors size own m s words
+  agrees-same : {l m : List ReplayEntry} {s : BlockStore} {words : List ℕ} → AgreesWith size own l s words → index m ≡ index l → summaryOf own m ≡ summaryOf own l
+      → AgreesWith size own m s words
   unfolding indexRows
-  mirrors-same h rows summary =
+  agrees-same h rows summary =
       record { committee = h .committee; authority = h .authority; rows = h .rows ∙ sym (ap (map blockRow) rows); summary = h .summary ∙ sym summary }
 
   -- an entry more, which the walk lists behind the others
-  grows : {log : Store} {s t : BlockStore} {words words′ : List ℕ} → (h : Carries log s words) (a : Entry) → a .tag < 2 ^ 32
+  grows : {log : LogImage} {s t : BlockStore} {words words′ : List ℕ} → (h : Carries log s words) (a : Entry) → a .tag < 2 ^ 32
       → place k (log .used) (length (log .image)) (length (a .payload)) ≡ accepted (a .start)
-      → Mirrors size own (readsOf (h .entries ++ (a ∷ []))) t words′ → OfBlock OfBytes a → Fine size own (readsOf (h .entries)) a
+      → AgreesWith size own (readsOf (h .entries ++ (a ∷ []))) t words′ → OfBlock OfBytes a → Fine size own (readsOf (h .entries)) a
       → Carries (record { used = endOf a; image = imageAfter (accepted (a .start)) (log .used) (log .image) (a .tag) (a .payload) }) t words′
   unfolding endOf
-  grows {log} h a small is mirrors digested fine =
+  grows {log} h a small is agrees digested fine =
       let says = accepted-says k (log .used) (length (log .image)) (length (a .payload)) (a .start) is in
       record {
         entries = h .entries ++ (a ∷ []);
@@ -173,28 +173,28 @@ module _ (k : ℕ) (size own : ℕ) where
               most = omega (arith, says .most);
             };
         walks = walk-grows k (log .used) (log .image) a small is (h .walks);
-        mirrors = mirrors;
+        agrees = agrees;
         digested = blocks-one OfBytes (h .entries) a (h .digested) digested;
         fine = fine-one size own [] (h .entries) a (h .fine) fine;
       }
 
-  carries-append : {log : Store} {s : BlockStore} {words : List ℕ} → Carries log s words
-      → (a : Append) → a .tag < 2 ^ 32 → (a .tag ≡ 1 → ⊥) → (a .tag ≡ 3 → ⊥) → Carries (next k log a) s words
-  unfolding next answerOf usedAfter imageAfter endOf
+  carries-append : {log : LogImage} {s : BlockStore} {words : List ℕ} → Carries log s words
+      → (a : Append) → a .tag < 2 ^ 32 → (a .tag ≡ 1 → ⊥) → (a .tag ≡ 3 → ⊥) → Carries (afterAppend k log a) s words
+  unfolding afterAppend answerOf usedAfter imageAfter endOf
   carries-append {log} {s} {words} h a small one three = from (answerOf k log a) refl
     where
-      from : (p : Placed) → answerOf k log a ≡ p → Carries (next k log a) s words
+      from : (p : Placed) → answerOf k log a ≡ p → Carries (afterAppend k log a) s words
       from (accepted start) is =
           let b : Entry = record { start = start; tag = a .tag; payload = a .payload } in
-          let l : List Read = readsOf (h .entries) in
+          let l : List ReplayEntry = readsOf (h .entries) in
           let read : readsOf (h .entries ++ (b ∷ [])) ≡ l ++ readOf b = reads-one (h .entries) b in
           let same = no-block-read b one three own l in
           rw is
-          (grows h b small is (mirrors-same (h .mirrors) (ap index read ∙ same .0) (ap (summaryOf own) read ∙ same .1))
+          (grows h b small is (agrees-same (h .agrees) (ap index read ∙ same .0) (ap (summaryOf own) read ∙ same .1))
           (no-block-holds OfBytes b one three) (fine-other b one three size own l))
       from (append.refused n) is = rw is h
 
-  carries-insert : {log : Store} {s : BlockStore} {words : List ℕ} → Carries log s words
+  carries-insert : {log : LogImage} {s : BlockStore} {words : List ℕ} → Carries log s words
       → (tag : ℕ) (payload : List ℕ) → (tag ≡ 1) ⊎ (tag ≡ 3) → AllBytes payload → (r : Inserted) (image′ words′ : List ℕ)
       → Inserts (record { exponent = k; used = log .used }) s tag payload (log .image) words r image′ words′ → r .number ≡ 0
       → Carries (record { used = r .writer .used; image = image′ }) (r .store) words′
@@ -206,12 +206,12 @@ module _ (k : ℕ) (size own : ℕ) where
       let passed : Passed w (length (log .image)) s words tag payload (put .start) (put .reference) (put .rows) =
       accepted-passed w (length (log .image)) s words tag payload (put .is) in
       let e : Entry = record { start = put .start; tag = tag; payload = payload } in
-      let l : List Read = readsOf (h .entries) in
+      let l : List ReplayEntry = readsOf (h .entries) in
       let held = insert-holds (put .start) payload all tag which (passed .holds) in
-      let y : Read = record { entry = e; item = held .item } in
+      let y : ReplayEntry = record { entry = e; item = held .item } in
       let checked = call-checked k (log .used) (length (log .image)) s words refl (passed .call) in
       let read : readsOf (h .entries ++ (e ∷ [])) ≡ l ++ (y ∷ []) =
-      reads-one (h .entries) e ∙ ap (λ (m : List Read). l ++ m) (read-judged e (held .is)) in
+      reads-one (h .entries) e ∙ ap (λ (m : List ReplayEntry). l ++ m) (read-classified e (held .is)) in
       let answer : r ≡ insertedOf w s (length payload) (insert (put .start) (put .reference) (put .rows)) =
       ins .answer ∙ ap (insertedOf w s (length payload)) (put .is) in
       let rows : words′ ≡ upserted words (s .rows) (loadedRow (put .reference) (put .start)) =
@@ -221,20 +221,20 @@ module _ (k : ℕ) (size own : ℕ) where
       let small : put .reference .authority < s .«committee_size» =
       number-below (s .«committee_size») (s .authority) (rowsOf (s .rows) words) (put .reference) refl (passed .block) in
       let checks : blockCheck size own (blocks l) (some (put .reference)) ≡ 0 =
-      sym (number-checked size own (rowsOf (s .rows) words) l (put .reference) (h .mirrors .rows))
-      ∙ ap₂ (λ (n o : ℕ). blockNumber n o (rowsOf (s .rows) words) (put .reference)) (sym (h .mirrors .committee)) (sym (h .mirrors .authority))
+      sym (number-checked size own (rowsOf (s .rows) words) l (put .reference) (h .agrees .rows))
+      ∙ ap₂ (λ (n o : ℕ). blockNumber n o (rowsOf (s .rows) words) (put .reference)) (sym (h .agrees .committee)) (sym (h .agrees .authority))
       ∙ passed .block in
-      let mirrored = mirrors-block size own l s words (h .mirrors) (all-digested h) checked e held small (passed .counted) in
-      let stepped : _≡_ {A = Store} (record { used = endOf e; image = imageAfter (accepted (put .start)) (log .used) (log .image) tag payload })
+      let agreed = agrees-block size own l s words (h .agrees) (all-digested h) checked e held small (passed .counted) in
+      let stepped : _≡_ {A = LogImage} (record { used = endOf e; image = imageAfter (accepted (put .start)) (log .used) (log .image) tag payload })
       (record { used = r .writer .used; image = image′ }) = sym (λ i. record { used = answer i .writer .used; image = bytes i }) in
-      subst (λ (st : Store). Carries st (r .store) words′) stepped
+      subst (λ (st : LogImage). Carries st (r .store) words′) stepped
       (grows h e (tag-small tag which) (passed .placed)
-      (subst (λ (m : List Read). Mirrors size own m (r .store) words′) (sym read)
-      (subst (λ (t : BlockStore). Mirrors size own (l ++ (y ∷ [])) t words′) (sym (ap (λ (r : Inserted). r .store) answer))
-      (subst (λ (t : List ℕ). Mirrors size own (l ++ (y ∷ [])) (storeWith s (put .reference) (put .rows)) t) (sym rows) mirrored)))
+      (subst (λ (m : List ReplayEntry). AgreesWith size own m (r .store) words′) (sym read)
+      (subst (λ (t : BlockStore). AgreesWith size own (l ++ (y ∷ [])) t words′) (sym (ap (λ (r : Inserted). r .store) answer))
+      (subst (λ (t : List ℕ). AgreesWith size own (l ++ (y ∷ [])) (storeWith s (put .reference) (put .rows)) t) (sym rows) agreed)))
       (held-holds OfBytes held (held .digested)) (fine-inserted size own l e held checks))
 
-  carries-clean : {log : Store} {s : BlockStore} {words : List ℕ} → Carries log s words
+  carries-clean : {log : LogImage} {s : BlockStore} {words : List ℕ} → Carries log s words
       → (t : ℕ) → Carries log s (cleanIndex (callCheck k (log .used) (length (log .image)) s words) t (indexed s words) words)
   unfolding indexed
   carries-clean {log} {s} {words} h t =
@@ -242,34 +242,34 @@ module _ (k : ℕ) (size own : ℕ) where
         entries = h .entries;
         sound = h .sound;
         walks = h .walks;
-        mirrors =
+        agrees =
             record {
-              committee = h .mirrors .committee;
-              authority = h .mirrors .authority;
+              committee = h .agrees .committee;
+              authority = h .agrees .authority;
               rows =
                   cleaned-rows (callCheck k (log .used) (length (log .image)) s words) t (s .rows) words
                   (λ passed. call-checked k (log .used) (length (log .image)) s words refl passed .fits)
-                  ∙ h .mirrors .rows;
-              summary = h .mirrors .summary;
+                  ∙ h .agrees .rows;
+              summary = h .agrees .summary;
             };
         digested = h .digested;
         fine = h .fine;
       }
 
-  carries-look : {log : Store} {s : BlockStore} {words : List ℕ} → Carries log s words → (n : ℕ) → Carries log (counted s n) words
+  carries-look : {log : LogImage} {s : BlockStore} {words : List ℕ} → Carries log s words → (n : ℕ) → Carries log (counted s n) words
   unfolding counted indexed
   carries-look h n =
       record {
         entries = h .entries;
         sound = h .sound;
         walks = h .walks;
-        mirrors =
-            record { committee = h .mirrors .committee; authority = h .mirrors .authority; rows = h .mirrors .rows; summary = h .mirrors .summary };
+        agrees =
+            record { committee = h .agrees .committee; authority = h .agrees .authority; rows = h .agrees .rows; summary = h .agrees .summary };
         digested = h .digested;
         fine = h .fine;
       }
 
-  carries-lend : {log : Store} {s : BlockStore} {words : List ℕ} → Carries log s words → (image′ words′ : List ℕ) → log .used ≤ length image′
+  carries-lend : {log : LogImage} {s : BlockStore} {words : List ℕ} → Carries log s words → (image′ words′ : List ℕ) → log .used ≤ length image′
       → take (log .used) image′ ≡ take (log .used) (log .image) → indexed s words′ ≡ indexed s words
       → Carries (record { used = log .used; image = image′ }) s words′
   unfolding onwards
@@ -281,18 +281,18 @@ module _ (k : ℕ) (size own : ℕ) where
             walk-resumes k (h .sound .low) (log .image) (log .used) (h .sound .within) (h .walks) .same image′ (log .used) (omega arith) (sym same)
             ∙ ap (onwards (h .entries)) (walk-end k image′ (log .used))
             ∙ (λ j. record { entries = append-nil (h .entries) j; ending = stopped END (log .used) });
-        mirrors =
+        agrees =
             record {
-              committee = h .mirrors .committee;
-              authority = h .mirrors .authority;
-              rows = ap (map unloadedRow) rows ∙ h .mirrors .rows;
-              summary = h .mirrors .summary;
+              committee = h .agrees .committee;
+              authority = h .agrees .authority;
+              rows = ap (map unloadedRow) rows ∙ h .agrees .rows;
+              summary = h .agrees .summary;
             };
         digested = h .digested;
         fine = h .fine;
       }
 
-  pub carries : 6 ≤ k → k ≤ 28 → {log : Store} {s : BlockStore} {words : List ℕ} → Made k size own log s words → Carries log s words
+  pub carries : 6 ≤ k → k ≤ 28 → {log : LogImage} {s : BlockStore} {words : List ℕ} → Reachable k size own log s words → Carries log s words
   carries low high (new image words) = carries-new low high image words
   carries low high (opens image all used p u c i p′ u′ c′ i′ r word e l is answers) =
       carries-open image all used p u c i p′ u′ c′ i′ r word e l is answers
@@ -305,7 +305,7 @@ module _ (k : ℕ) (size own : ℕ) where
 
   -- ---- Recovery of the whole log
 
-  module _ {log : Store} {s : BlockStore} {words : List ℕ} (h : Carries log s words) (lent : Lent) where
+  module _ {log : LogImage} {s : BlockStore} {words : List ℕ} (h : Carries log s words) (lent : Lent) where
     pub recover-whole : recover k (log .image) (log .used) size own lent
         ≡ unless (committeeCheck size own) (λ n. refused n 0) (replayed size own lent (record { entries = h .entries; ending = stopped END (log .used) }))
     unfolding recover
@@ -318,7 +318,7 @@ reopened k least most size own log s words made lent word e l is =
     let h : Carries k size own log s words = carries k size own least most made in
     let reads : l ≡ readsOf (h .entries) =
     replay-reads size own lent _ (unless-recovered (committeeCheck size own) _ (sym (recover-whole k size own h lent) ∙ is) .1) in
-    subst (λ (m : List Read). Mirrors size own m s words) (sym reads) (h .mirrors)
+    subst (λ (m : List ReplayEntry). AgreesWith size own m s words) (sym reads) (h .agrees)
 
 pub refusals : Refusals
 unfolding walk

@@ -14,7 +14,7 @@ use Rattle.rows.specs.declared.Place.{Place}
 use Rattle.rows.specs.declared.Place.the-variants.{At, Gap}
 use Rattle.tables.specs.declared.Upserted.the-variants.{Count, Full}
 use Rattle.rows.specs.Rows.{rowsOf, flat, key, compared, placeOf, Ascending}
-use Rattle.tables.specs.Tables.{tableOf, Eights, upserted, upsertCount, putRow}
+use Rattle.tables.specs.Tables.{tableOf, EightWords, upserted, upsertCount, putRow}
 use Rattle.rows.proofs.Lexicographic.{order-cases}
 use Rattle.rows.proofs.Rows.{length-rowsOf, rowsOf-put, rowsOf-inserted}
 use Rattle.rows.proofs.Places.{at-place, gap-place}
@@ -109,7 +109,7 @@ blocks-unloaded (b ∷ bs) = ap₂ (λ (r : List ℕ) (l : List (List ℕ)). r �
 
 -- ---- An answer table
 
-pub block-eights : (bs : List Block) → Eights (map blockRow bs)
+pub block-eights : (bs : List Block) → EightWords (map blockRow bs)
 unfolding blockRow
 block-eights [] = tt
 block-eights (b ∷ bs) = (length-indexRow (b .reference) (b .position) 0, block-eights bs)
@@ -132,7 +132,7 @@ unloads-unloaded t [] = refl
 unloads-unloaded t (r ∷ rows) =
     ap₂ (λ (r : List ℕ) (l : List (List ℕ)). r ∷ l) (unload-unloaded t r) (unloads-unloaded t rows)
 
-set-eights : (t : ℕ) (rows : List (List ℕ)) → Eights rows → Eights (map (unload t) rows)
+set-eights : (t : ℕ) (rows : List (List ℕ)) → EightWords rows → EightWords (map (unload t) rows)
 unfolding unload pick
 set-eights t [] h = tt
 set-eights t (r ∷ rows) h =

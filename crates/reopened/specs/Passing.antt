@@ -1,4 +1,4 @@
--- The calls on a store that a node can come to (`Made`) pass the checks with which each of them begins: 1, 2 and 18. Document 01, 18: "in a lent
+-- The calls on a store that a node can come to (`Reachable`) pass the checks with which each of them begins: 1, 2 and 18. Document 01, 18: "in a lent
 -- store, more index rows counted than lent, rows not strictly ascending by round, authority, digest, or one with an authority not below the
 -- size". And what its index names is in the log.
 use mathlib.Core.Path.{_≡_}
@@ -9,7 +9,7 @@ use Rattle.laws.specs.Bytes.{AllBytes}
 use Rattle.types.specs.declared.BlockReference.{BlockReference}
 use Rattle.rows.specs.Rows.{key}
 use Rattle.index.specs.Keys.{keyWords}
-use Rattle.replay.specs.Items.{Read}
+use Rattle.replay.specs.Items.{ReplayEntry}
 use Rattle.committee.specs.Committee.{committeeCheck}
 use Rattle.replay.specs.Recovery.{recover, recovered}
 use Rattle.wal.specs.Walk.{Stop}
@@ -19,8 +19,8 @@ use Rattle.replay_log.specs.Answers.{Answers}
 use Rattle.store.specs.declared.BlockStore.{BlockStore}
 use Rattle.store.specs.Store.{indexed, openedOf, callCheck}
 use Rattle.block_reader.specs.Reading.{got, blockAt}
-use Rattle.cut.specs.Cut.{Store}
-use Rattle.reopened.specs.Reopened.{Made}
+use Rattle.cut.specs.Cut.{LogImage}
+use Rattle.reopened.specs.Reopened.{Reachable}
 
 -- The store that a recovery leaves, of a log of whatever bytes: a call passes with the log as it was lent to recovery, and with the log up to E,
 -- from where the node goes on.
@@ -31,33 +31,33 @@ pub record Passes (k used size own : ℕ) (image index : List ℕ) (r : Recovere
 
 abbrev pub Opened : Type 0
 Opened =
-    (k : ℕ) (image : List ℕ) → AllBytes image → (used size own : ℕ) (p u c i p′ u′ c′ i′ : List ℕ) (r : Recovered) (word : Stop) (e : ℕ) (l : List Read)
+    (k : ℕ) (image : List ℕ) → AllBytes image → (used size own : ℕ) (p u c i p′ u′ c′ i′ : List ℕ) (r : Recovered) (word : Stop) (e : ℕ) (l : List ReplayEntry)
     → recover k image used size own (lentOf p u c i) ≡ recovered word e l → Answers used own (recovered word e l) r p u c i p′ u′ c′ i′
     → Passes k used size own image i′ r e
 
--- Any store of `Made`, for a committee that passes.
+-- Any store of `Reachable`, for a committee that passes.
 abbrev pub Kept : Type 0
 Kept =
-    (k : ℕ) → 6 ≤ k → k ≤ 28 → (size own : ℕ) → committeeCheck size own ≡ 0 → (log : Store) (s : BlockStore) (index : List ℕ)
-    → Made k size own log s index → callCheck k (log .used) (length (log .image)) s index ≡ 0
+    (k : ℕ) → 6 ≤ k → k ≤ 28 → (size own : ℕ) → committeeCheck size own ≡ 0 → (log : LogImage) (s : BlockStore) (index : List ℕ)
+    → Reachable k size own log s index → callCheck k (log .used) (length (log .image)) s index ≡ 0
 
 -- ---- What the index names is there
 
 -- a read of the block of a row gives a block with the row's reference
-pub record There (k : ℕ) (log : Store) (row : List ℕ) : Type 0 where
+pub record There (k : ℕ) (log : LogImage) (row : List ℕ) : Type 0 where
   pub reference : BlockReference
   pub at : ℕ
   pub len : ℕ
   pub reads : blockAt k (log .image) (log .used) (getD row 6 0) ≡ got reference at len
   pub refers : keyWords reference ≡ key row
 
-abbrev pub AllThere : ℕ → Store → List (List ℕ) → Type 0
+abbrev pub AllThere : ℕ → LogImage → List (List ℕ) → Type 0
 AllThere k log [] = Unit {0}
 AllThere k log (row ∷ rows) = There k log row × AllThere k log rows
 
--- Every row of a store of `Made` names a block that is in the log, whole, at the row's position: no lookup is refused for an indexed block that it
+-- Every row of a store of `Reachable` names a block that is in the log, whole, at the row's position: no lookup is refused for an indexed block that it
 -- reads.
-abbrev pub Found : Type 0
-Found =
-    (k : ℕ) → 6 ≤ k → k ≤ 28 → (size own : ℕ) (log : Store) (s : BlockStore) (index : List ℕ) → Made k size own log s index
+abbrev pub FoundThere : Type 0
+FoundThere =
+    (k : ℕ) → 6 ≤ k → k ≤ 28 → (size own : ℕ) (log : LogImage) (s : BlockStore) (index : List ℕ) → Reachable k size own log s index
     → AllThere k log (indexed s index)

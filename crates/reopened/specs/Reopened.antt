@@ -9,7 +9,7 @@ use lib.ListN.{length, take, set}
 use Rattle.laws.specs.Bytes.{AllBytes}
 use Rattle.laws.specs.Parse.{bad}
 use Rattle.types.specs.Records.{payload}
-use Rattle.replay.specs.Items.{isPayload, refuse, item, judge, Read}
+use Rattle.replay.specs.Items.{isPayload, refuse, item, classify, ReplayEntry}
 use Rattle.replay.specs.Rules.{pending}
 use Rattle.replay.specs.Recovery.{Lent, rowsCheck, recover, refused, recovered}
 use Rattle.committee.specs.Committee.{committeeCheck}
@@ -25,45 +25,45 @@ use Rattle.query.specs.Query.{counted}
 use Rattle.indexing.specs.declared.Inserted.{Inserted}
 use Rattle.insert.specs.Insert.{Inserts}
 use Rattle.cut.specs.PlainLog.{Append}
-use Rattle.cut.specs.Cut.{Store, next}
+use Rattle.cut.specs.Cut.{LogImage, afterAppend}
 
 -- The logs that a node can come to, each with its store and the table of its index; k, size and own are the same throughout. A refused append,
 -- insert, cleanup or lookup changes neither log, store nor index, and a store that is opened from a refused recovery is not meant.
-pub data Made (k size own : ℕ) : Store → BlockStore → List ℕ → Type 0 where
+pub data Reachable (k size own : ℕ) : LogImage → BlockStore → List ℕ → Type 0 where
   -- an empty log in an image of whatever bytes, and no block yet, in index rows of whatever words
-  new : (image index : List ℕ) → Made k size own (record { used = 0; image = image }) (openedOf size own emptyReplay) index
+  new : (image index : List ℕ) → Reachable k size own (record { used = 0; image = image }) (openedOf size own emptyReplay) index
   -- The node starts from a log of whatever bytes: as it was left, cut by a power failure, with zeros behind it, or written by another program.
   -- It has what recovery gives of `used` bytes, and goes on from E. p, u, c and i are the tables lent to recovery, p′, u′, c′ and i′ what they
   -- hold after it.
-  opens : (image : List ℕ) → AllBytes image → (used : ℕ) (p u c i p′ u′ c′ i′ : List ℕ) (r : Recovered) (word : Stop) (e : ℕ) (l : List Read)
+  opens : (image : List ℕ) → AllBytes image → (used : ℕ) (p u c i p′ u′ c′ i′ : List ℕ) (r : Recovered) (word : Stop) (e : ℕ) (l : List ReplayEntry)
       → recover k image used size own (lentOf p u c i) ≡ recovered word e l → Answers used own (recovered word e l) r p u c i p′ u′ c′ i′
-      → Made k size own (record { used = e; image = image }) (openedOf size own (r .replay)) i′
+      → Reachable k size own (record { used = e; image = image }) (openedOf size own (r .replay)) i′
   -- An append, accepted or not, of something else than a block: "every 32-bit tag" but the two that insert logs, since a block that is only
   -- appended is in no index before the next start.
-  appends : {log : Store} {s : BlockStore} {index : List ℕ} → Made k size own log s index
-      → (a : Append) → a .tag < 2 ^ 32 → (a .tag ≡ 1 → ⊥) → (a .tag ≡ 3 → ⊥) → Made k size own (next k log a) s index
+  appends : {log : LogImage} {s : BlockStore} {index : List ℕ} → Reachable k size own log s index
+      → (a : Append) → a .tag < 2 ^ 32 → (a .tag ≡ 1 → ⊥) → (a .tag ≡ 3 → ⊥) → Reachable k size own (afterAppend k log a) s index
   -- an accepted insert
-  inserts : {log : Store} {s : BlockStore} {index : List ℕ} → Made k size own log s index
+  inserts : {log : LogImage} {s : BlockStore} {index : List ℕ} → Reachable k size own log s index
       → (tag : ℕ) (payload : List ℕ) → (tag ≡ 1) ⊎ (tag ≡ 3) → AllBytes payload
       → (r : Inserted) (image′ index′ : List ℕ)
       → Inserts (record { exponent = k; used = log .used }) s tag payload (log .image) index r image′ index′ → r .number ≡ 0
-      → Made k size own (record { used = r .writer .used; image = image′ }) (r .store) index′
+      → Reachable k size own (record { used = r .writer .used; image = image′ }) (r .store) index′
   -- cleanup changes flags, a lookup counts loads
-  cleans : {log : Store} {s : BlockStore} {index : List ℕ} → Made k size own log s index
-      → (t : ℕ) → Made k size own log s (cleanupIndex k (log .image) (log .used) s index t)
-  looks : {log : Store} {s : BlockStore} {index : List ℕ} → Made k size own log s index
-      → (n : ℕ) → Made k size own log (counted s n) index
+  cleans : {log : LogImage} {s : BlockStore} {index : List ℕ} → Reachable k size own log s index
+      → (t : ℕ) → Reachable k size own log s (cleanupIndex k (log .image) (log .used) s index t)
+  looks : {log : LogImage} {s : BlockStore} {index : List ℕ} → Reachable k size own log s index
+      → (n : ℕ) → Reachable k size own log (counted s n) index
   -- the caller lends the log in another image, or the rows in another table, as where it needs more room
-  lends : {log : Store} {s : BlockStore} {index : List ℕ} → Made k size own log s index
+  lends : {log : LogImage} {s : BlockStore} {index : List ℕ} → Reachable k size own log s index
       → (image′ index′ : List ℕ) → log .used ≤ length image′ → take (log .used) image′ ≡ take (log .used) (log .image)
-      → indexed s index′ ≡ indexed s index → Made k size own (record { used = log .used; image = image′ }) s index′
+      → indexed s index′ ≡ indexed s index → Reachable k size own (record { used = log .used; image = image′ }) s index′
 
 -- a row, its loaded flag aside
 unfoldable pub unloadedRow : List ℕ → List ℕ
 unloadedRow r = set r 7 0
 
 -- the store is of this committee and own authority, and its references, positions and summary are those of the entries l
-pub record Mirrors (size own : ℕ) (l : List Read) (s : BlockStore) (index : List ℕ) : Type 0 where
+pub record AgreesWith (size own : ℕ) (l : List ReplayEntry) (s : BlockStore) (index : List ℕ) : Type 0 where
   pub committee : s .«committee_size» ≡ size
   pub authority : s .authority ≡ own
   pub rows : map unloadedRow (indexed s index) ≡ indexRows l
@@ -72,17 +72,17 @@ pub record Mirrors (size own : ℕ) (l : List Read) (s : BlockStore) (index : Li
 -- whatever tables are lent to the recovery that is not refused
 abbrev pub Reopened : Type 0
 Reopened =
-    (k : ℕ) → 6 ≤ k → k ≤ 28 → (size own : ℕ) (log : Store) (s : BlockStore) (index : List ℕ) → Made k size own log s index
-    → (lent : Lent) (word : Stop) (e : ℕ) (l : List Read) → recover k (log .image) (log .used) size own lent ≡ recovered word e l
-    → Mirrors size own l s index
+    (k : ℕ) → 6 ≤ k → k ≤ 28 → (size own : ℕ) (log : LogImage) (s : BlockStore) (index : List ℕ) → Reachable k size own log s index
+    → (lent : Lent) (word : Stop) (e : ℕ) (l : List ReplayEntry) → recover k (log .image) (log .used) size own lent ≡ recovered word e l
+    → AgreesWith size own l s index
 
--- each entry is judged as this item
-abbrev pub AllJudged : List Read → Type 0
-AllJudged [] = Unit {0}
-AllJudged (x ∷ l) = (judge (x .entry) ≡ item (x .item)) × AllJudged l
+-- each entry is classified as this item
+abbrev pub AllClassified : List ReplayEntry → Type 0
+AllClassified [] = Unit {0}
+AllClassified (x ∷ l) = (classify (x .entry) ≡ item (x .item)) × AllClassified l
 
-abbrev pub entriesIn : List Read → List Entry
-entriesIn l = map (λ (x : Read). x .entry) l
+abbrev pub entriesIn : List ReplayEntry → List Entry
+entriesIn l = map (λ (x : ReplayEntry). x .entry) l
 
 -- Why such a recovery is refused, with its number and start: for entries that are no blocks, for the tables or for the committee. Never for a
 -- block (9, 10, 13, 14) or for damage (5, 6, 7). `entries` are those that the walk lists.
@@ -90,16 +90,16 @@ pub data Cause (size own : ℕ) (lent : Lent) (entries : List Entry) : ℕ → �
   -- 18, with 0
   by-committee : {n : ℕ} → 0 < n → committeeCheck size own ≡ n → Cause size own lent entries n 0
   -- 8 or 12: an entry with this tag, or a commit that does not decode
-  by-entry : {n : ℕ} → (n ≡ 8) ⊎ (n ≡ 12) → (a : Entry) → List·Memᴰ a entries → judge a ≡ refuse n → Cause size own lent entries n (a .start)
+  by-entry : {n : ℕ} → (n ≡ 8) ⊎ (n ≡ 12) → (a : Entry) → List·Memᴰ a entries → classify a ≡ refuse n → Cause size own lent entries n (a .start)
   -- 15: the rows of the entries up to x do not fit
-  by-rows : (before : List Read) (x : Read) (later : List Entry) → entriesIn (before ++ (x ∷ [])) ++ later ≡ entries → AllJudged (before ++ (x ∷ []))
+  by-rows : (before : List ReplayEntry) (x : ReplayEntry) (later : List Entry) → entriesIn (before ++ (x ∷ [])) ++ later ≡ entries → AllClassified (before ++ (x ∷ []))
       → rowsCheck lent (before ++ (x ∷ [])) ≡ 15 → Cause size own lent entries 15 (x .entry .start)
   -- 11: a payload that is still pending does not decode
-  by-payload : (l : List Read) → entriesIn l ≡ entries → AllJudged l → (x : Read) → List·Memᴰ x (pending l) → x .item ≡ isPayload
+  by-payload : (l : List ReplayEntry) → entriesIn l ≡ entries → AllClassified l → (x : ReplayEntry) → List·Memᴰ x (pending l) → x .item ≡ isPayload
       → payload (x .entry .payload) 0 ≡ bad → Cause size own lent entries 11 (x .entry .start)
 
 abbrev pub Refusals : Type 0
 Refusals =
-    (k : ℕ) → 6 ≤ k → k ≤ 28 → (size own : ℕ) (log : Store) (s : BlockStore) (index : List ℕ) → Made k size own log s index
+    (k : ℕ) → 6 ≤ k → k ≤ 28 → (size own : ℕ) (log : LogImage) (s : BlockStore) (index : List ℕ) → Reachable k size own log s index
     → (lent : Lent) (n p : ℕ) → recover k (log .image) (log .used) size own lent ≡ refused n p
     → Cause size own lent (walk k (log .image) (log .used) .entries) n p

@@ -16,10 +16,10 @@ use Rattle.wal_position.specs.Checks.{unless}
 use Rattle.wal_reader.specs.Entries.{Entry}
 use Rattle.wal.specs.Walk.{END}
 use Rattle.rows.specs.Rows.{compared, choose}
-use Rattle.replay.specs.Items.{judge, Read, blockIn}
-use Rattle.replay.specs.Rules.{lastOf, gather, leaves, allLeave, canBePending, pending, stateIn, stateOf, afterState, blockOf, blocks, unprocessed, sortKey, insert, setOf, commitsIn, commits, committed, latest, index}
+use Rattle.replay.specs.Items.{classify, ReplayEntry, blockIn}
+use Rattle.replay.specs.Rules.{lastOf, gather, keepsPending, allKeepPending, canBePending, pending, stateIn, stateOf, afterState, blocksIn, blocks, unprocessed, sortKey, insert, setOf, commitsIn, commits, committed, latest, index}
 use Rattle.index.specs.Keys.{ofBe, digestWords}
-use Rattle.replay.specs.Recovery.{Lent, Recovery, refused, recovered, present, blockCheck, rowsCheck, entryCheck, Scanned, scan, scanned, refusedAt, badPayload, decoded}
+use Rattle.replay.specs.Recovery.{Lent, Recovery, refused, recovered, hasBlockIn, blockCheck, rowsCheck, entryCheck, Scanned, scan, scanned, refusedAt, badPayload, decoded}
 
 ref : ℕ → ℕ → BlockReference
 ref authority round = record { authority = authority; round = round; digest = record { 0 = zeros 32 } }
@@ -42,15 +42,15 @@ at start tag bytes = record { start = start; tag = tag; payload = bytes }
 own : ℕ → ℕ → ℕ → Entry
 own start next round = at start 3 (le 8 next ++ blockOfRound 0 round)
 
-roomy : Lent
-roomy = record { pending = 8; unprocessed = 8; committed = 8; index = 8 }
+eightRows : Lent
+eightRows = record { pending = 8; unprocessed = 8; committed = 8; index = 8 }
 
 -- a committee of 4, own authority 0
 scanned-by : List Entry → Scanned
-scanned-by entries = scan 4 0 roomy [] entries
+scanned-by entries = scan 4 0 eightRows [] entries
 
 starts : Scanned → List ℕ
-starts (scanned l) = map (λ (x : Read). x .entry .start) (pending l)
+starts (scanned l) = map (λ (x : ReplayEntry). x .entry .start) (pending l)
 starts (refusedAt n p) = []
 
 recovery : Scanned → List ℕ
@@ -88,13 +88,13 @@ answers =
 
 rows-8-to-15 : answers
     ≡ (8 ∷ 0 ∷ []) ∷ (9 ∷ 0 ∷ []) ∷ (10 ∷ 0 ∷ []) ∷ (11 ∷ 0 ∷ []) ∷ (0 ∷ []) ∷ (12 ∷ 0 ∷ []) ∷ (13 ∷ 0 ∷ []) ∷ (14 ∷ 256 ∷ []) ∷ (15 ∷ 512 ∷ []) ∷ (0 ∷ []) ∷ []
-unfolding answers recovery scanned-by roomy own at blockOfRound ref pick bytesAt zeros le ofLe then raw number many joined answer bool boolBytes vec vecBytes byteString byteStringBytes exactly digest digestBytes signature signatureBytes reference referenceBytes statement block blockBytes payload ownBlock ownBlockBytes commitData commit unless compared choose judge blockIn lastOf gather leaves allLeave canBePending pending stateIn stateOf afterState blockOf blocks unprocessed sortKey insert setOf commitsIn commits committed latest index present blockCheck rowsCheck entryCheck scan badPayload decoded
+unfolding answers recovery scanned-by eightRows own at blockOfRound ref pick bytesAt zeros le ofLe then raw number many joined answer bool boolBytes vec vecBytes byteString byteStringBytes exactly digest digestBytes signature signatureBytes reference referenceBytes statement block blockBytes payload ownBlock ownBlockBytes commitData commit unless compared choose classify blockIn lastOf gather keepsPending allKeepPending canBePending pending stateIn stateOf afterState blocksIn blocks unprocessed sortKey insert setOf commitsIn commits committed latest index hasBlockIn blockCheck rowsCheck entryCheck scan badPayload decoded
 rows-8-to-15 = refl
 
 -- "cutting pending with > instead of ≥" is a mistake: next entry 64 keeps the payload at 64, and MAX keeps none
 kept : (starts (scanned-by (at 0 2 (zeros 8) ∷ at 64 2 (zeros 8) ∷ own 128 64 1 ∷ at 512 2 (zeros 8) ∷ [])) ≡ 64 ∷ 512 ∷ [])
     × (starts (scanned-by (at 0 2 (zeros 8) ∷ own 128 (2 ^ 64 - 1) 1 ∷ [])) ≡ [])
-unfolding starts scanned-by roomy own at blockOfRound ref pick bytesAt zeros le ofLe then raw number many joined answer bool boolBytes vec vecBytes byteString byteStringBytes exactly digest digestBytes signature signatureBytes reference referenceBytes statement block blockBytes payload ownBlock ownBlockBytes commitData commit unless compared choose judge blockIn lastOf gather leaves allLeave canBePending pending stateIn stateOf afterState blockOf blocks unprocessed sortKey insert setOf commitsIn commits committed latest index present blockCheck rowsCheck entryCheck scan badPayload decoded
+unfolding starts scanned-by eightRows own at blockOfRound ref pick bytesAt zeros le ofLe then raw number many joined answer bool boolBytes vec vecBytes byteString byteStringBytes exactly digest digestBytes signature signatureBytes reference referenceBytes statement block blockBytes payload ownBlock ownBlockBytes commitData commit unless compared choose classify blockIn lastOf gather keepsPending allKeepPending canBePending pending stateIn stateOf afterState blocksIn blocks unprocessed sortKey insert setOf commitsIn commits committed latest index hasBlockIn blockCheck rowsCheck entryCheck scan badPayload decoded
 kept = (refl, refl)
 
 -- a digest's first byte is the most significant of its first word, its last the least significant of its fourth

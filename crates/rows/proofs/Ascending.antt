@@ -7,7 +7,7 @@ use Prim.Native.Nat.{ℕ, zero, suc}
 use lib.ListN.{take, drop, set, getD}
 use Rattle.laws.specs.Pick.{pick}
 use Rattle.rows.specs.declared.Order.the-variants.{Below, Above}
-use Rattle.rows.specs.Rows.{key, choose, compared, Leads, Ascending, leads, ascendingb, below, present}
+use Rattle.rows.specs.Rows.{key, choose, compared, Leads, Ascending, leads, ascendingb, below, hasKey}
 use Rattle.rows.proofs.Lexicographic.{order-cases, below-trans, above-of, below-of}
 
 -- the test decides
@@ -52,12 +52,12 @@ leads-trans j k (r ∷ rows) h l = below-trans j k (key r) h l
 
 -- none of ascending rows has a key that is not above one that leads
 pub leads-none : (k : List ℕ) (rows : List (List ℕ)) → Leads k rows → Ascending rows
-    → (below k rows ≡ 0) × (present k rows ≡ false)
-unfolding below present choose
+    → (below k rows ≡ 0) × (hasKey k rows ≡ false)
+unfolding below hasKey choose
 leads-none k [] l a = (refl, refl)
 leads-none k (r ∷ rows) l a =
     let e : compared (key r) k ≡ Above = above-of k (key r) l in
-    let n : (below k rows ≡ 0) × (present k rows ≡ false) = leads-none k rows (leads-trans k (key r) rows l (a .0)) (a .1) in
+    let n : (below k rows ≡ 0) × (hasKey k rows ≡ false) = leads-none k rows (leads-trans k (key r) rows l (a .0)) (a .1) in
     (rw e (n .0), rw e (n .1))
 
 -- the first key is below each later one
@@ -83,9 +83,9 @@ module _ (row : List ℕ) where
   leads-inserted k (suc i) [] l h = h
   leads-inserted k (suc i) (r ∷ rows) l h = l
 
-  pub ascending-inserted : (rows : List (List ℕ)) → Ascending rows → present (key row) rows ≡ false
+  pub ascending-inserted : (rows : List (List ℕ)) → Ascending rows → hasKey (key row) rows ≡ false
       → Ascending (take (below (key row) rows) rows ++ row ∷ drop (below (key row) rows) rows)
-  unfolding below present choose
+  unfolding below hasKey choose
   ascending-inserted [] h p = (tt, tt)
   ascending-inserted (r ∷ rows) h p =
       ⊎-elim

@@ -8,7 +8,7 @@ use lib.ListN.{length}
 use Rattle.laws.specs.Pick.{pick}
 use Rattle.rows.specs.declared.Order.the-variants.{Below, Equal, Above}
 use Rattle.rows.specs.declared.Place.the-variants.{At, Gap}
-use Rattle.rows.specs.Rows.{rowsOf, rowAt, key, compared, Ascending, below, present, placeOf}
+use Rattle.rows.specs.Rows.{rowsOf, rowAt, key, compared, Ascending, below, hasKey, placeOf}
 use Rattle.rows.proofs.Rows.{length-rowsOf, rowsFrom, rowsFrom-zero, rowsFrom-none, rowsFrom-split}
 use Rattle.rows.proofs.Ascending.{ascending-front, ascending-back}
 use Rattle.rows.proofs.Places.{below-row, at-row, above-row}
@@ -19,7 +19,7 @@ pub record Searched (k w : List ℕ) (n low high : ℕ) : Type 0 where
   pub within : high ≤ n
   pub ascending : Ascending (rowsFrom w low high)
   pub places : below k (rowsOf n w) ≡ low + below k (rowsFrom w low high)
-  pub there : present k (rowsOf n w) ≡ present k (rowsFrom w low high)
+  pub there : hasKey k (rowsOf n w) ≡ hasKey k (rowsFrom w low high)
 
 pub searched-start : (k w : List ℕ) (n : ℕ) → Ascending (rowsOf n w) → Searched k w n 0 n
 searched-start k w n h =
@@ -51,7 +51,7 @@ module _ {k w : List ℕ} {n low high : ℕ} (h : Searched k w n low high) where
           within = h .within;
           ascending = ascending-back (rowsFrom w low m) (rowAt w m ∷ rowsFrom w (m + 1) high) halves .1;
           places = omega (arith, h .places, ap (below k) split, r .0, length-rowsFrom w low m after);
-          there = h .there ∙ ap (present k) split ∙ r .1;
+          there = h .there ∙ ap (hasKey k) split ∙ r .1;
         }
 
     pub searched-above : compared (key (rowAt w m)) k ≡ Above → Searched k w n low m
@@ -62,7 +62,7 @@ module _ {k w : List ℕ} {n low high : ℕ} (h : Searched k w n low high) where
           within = omega arith;
           ascending = ascending-front (rowsFrom w low m) (rowAt w m ∷ rowsFrom w (m + 1) high) halves;
           places = omega (arith, h .places, ap (below k) split, r .0);
-          there = h .there ∙ ap (present k) split ∙ r .1;
+          there = h .there ∙ ap (hasKey k) split ∙ r .1;
         }
 
     pub searched-at : compared (key (rowAt w m)) k ≡ Equal → At m ≡ placeOf k (rowsOf n w)
@@ -70,14 +70,14 @@ module _ {k w : List ℕ} {n low high : ℕ} (h : Searched k w n low high) where
     searched-at q =
         let r = at-row k (rowAt w m) (rowsFrom w (m + 1) high) (rowsFrom w low m) halves q in
         let e : below k (rowsOf n w) ≡ m = omega (arith, h .places, ap (below k) split, r .0, length-rowsFrom w low m after) in
-        rw (h .there ∙ ap (present k) split ∙ r .1, e)
+        rw (h .there ∙ ap (hasKey k) split ∙ r .1, e)
 
   pub searched-done : high ≤ low → Gap low ≡ placeOf k (rowsOf n w)
-  unfolding placeOf pick below present
+  unfolding placeOf pick below hasKey
   searched-done e =
       let none : rowsFrom w low high ≡ [] = rowsFrom-none w low high e in
       let b : below k (rowsOf n w) ≡ low = omega (arith, h .places, ap (below k) none) in
-      rw (h .there ∙ ap (present k) none, b)
+      rw (h .there ∙ ap (hasKey k) none, b)
 
 -- The last row looked at first.
 module _ (k w : List ℕ) (n : ℕ) (h : Ascending (rowsOf n w)) where

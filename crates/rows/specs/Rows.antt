@@ -67,13 +67,13 @@ below k [] = 0
 below k (r ∷ rows) = choose (compared (key r) k) (suc (below k rows)) (below k rows) (below k rows)
 
 -- whether one of the rows has the key k
-unfoldable pub present : List ℕ → List (List ℕ) → Bool
-present k [] = false
-present k (r ∷ rows) = choose (compared (key r) k) (present k rows) true (present k rows)
+unfoldable pub hasKey : List ℕ → List (List ℕ) → Bool
+hasKey k [] = false
+hasKey k (r ∷ rows) = choose (compared (key r) k) (hasKey k rows) true (hasKey k rows)
 
 -- where the key k is among the rows, or is to be put
 unfoldable pub placeOf : List ℕ → List (List ℕ) → Place
-placeOf k rows = pick (present k rows) (At (below k rows)) (Gap (below k rows))
+placeOf k rows = pick (hasKey k rows) (At (below k rows)) (Gap (below k rows))
 
 -- how many rows, from the first on, begin with a word below p
 unfoldable pub leadingBelow : ℕ → List (List ℕ) → ℕ

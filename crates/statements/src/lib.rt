@@ -1,3 +1,6 @@
+// Ported from types.rs of mahi-mahi-consensus, Copyright (c) Mysten Labs, Inc., Apache-2.0.
+// Changed: written anew in Rattle, with contracts. NOTICE says what was carried across and what was changed.
+
 // Statements (types.rs) and their decoders. Each decoder takes any place and any bytes,
 // and answers the record that stands there and the place behind it, or that there is none.
 use bincode::Cursor;
@@ -14,7 +17,7 @@ ghost use mathlib.Core.Path.{_≡_};
 ghost use Rattle.laws.specs.Parse.{then, got, many};
 ghost use Rattle.bincode.specs.Bincode.{byteString, vec};
 ghost use Rattle.bincode.specs.Answers.{endAnswer, partAnswer};
-ghost use Rattle.bincode.specs.Cursors.{next};
+ghost use Rattle.bincode.specs.Cursors.{nextElement};
 ghost use Rattle.types.specs.Records.{locator, range, vote, statement, share, voteOn, voteRange};
 ghost use Rattle.statements.specs.Answers.{shareOf, votedOf, rangedOf, noStatement, statementAnswer, noNextStatement, nextStatementAnswer};
 
@@ -217,7 +220,7 @@ fn no_next_statement() -> NextStatement
 
 // A step of a pass over statements.
 pub fn next_statement(s: &[u8], c: Cursor) -> NextStatement
-    ensures { λ r. ⌜ r ≡ nextStatementAnswer c (next statement (now (s .entry)) c) ⌝ }
+    ensures { λ r. ⌜ r ≡ nextStatementAnswer c (nextElement statement (now (s .entry)) c) ⌝ }
 {
     let at = c.at;
     let left = c.left;

@@ -8,7 +8,7 @@ use lib.ListN.{length, take, getD}
 use Rattle.laws.proofs.Tests.{leb-cases}
 use Rattle.rows.specs.declared.Order.the-variants.{Below}
 use Rattle.rows.specs.Rows.{key, compared, Ascending}
-use Rattle.tables.specs.Tables.{Eights}
+use Rattle.tables.specs.Tables.{EightWords}
 use Rattle.rows.proofs.Lexicographic.{not-above, first-above}
 
 first-ascends : (r s : List ℕ) → 1 ≤ length r → 1 ≤ length s → compared (key r) (key s) ≡ Below → getD r 0 0 ≤ getD s 0 0
@@ -26,7 +26,7 @@ abbrev pub Past : ℕ → List (List ℕ) → Type 0
 Past t [] = Unit
 Past t (r ∷ rows) = (t < getD r 0 0) × Past t rows
 
-pub past : (t : ℕ) (r : List ℕ) (rows : List (List ℕ)) → t < getD r 0 0 → Eights (r ∷ rows) → Ascending (r ∷ rows) → Past t (r ∷ rows)
+pub past : (t : ℕ) (r : List ℕ) (rows : List (List ℕ)) → t < getD r 0 0 → EightWords (r ∷ rows) → Ascending (r ∷ rows) → Past t (r ∷ rows)
 past t r [] h e a = (h, tt)
 past t r (s ∷ rows) h e a =
     (h, past t s rows (omega (arith, first-ascends r s (omega (arith, e .0)) (omega (arith, e .1 .0)) (a .0))) (e .1) (a .1))

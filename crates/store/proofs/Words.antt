@@ -8,7 +8,7 @@ use lib.Seq.{set-append-left, take-set-le, drop-set-add, drop-drop}
 use Rattle.laws.specs.Bytes.{bytesAt, written}
 use Rattle.laws.proofs.Written.{length-bytesAt, getD-bytesAt}
 use Rattle.rows.specs.Rows.{rowsOf, rowAt}
-use Rattle.tables.specs.Tables.{Eights}
+use Rattle.tables.specs.Tables.{EightWords}
 use Rattle.rows.proofs.Rows.{rowsOf-add, rowsFrom}
 use Rattle.tables.proofs.Tables.{eights-rowsOf}
 
@@ -20,7 +20,7 @@ pub rowsOf-next : (w : List ℕ) (i : ℕ) → rowsOf (i + 1) w ≡ rowsOf i w +
 unfolding rowsOf rowAt bytesAt
 rowsOf-next w i = rowsOf-add i 1 w
 
-pub rowsFrom-eights : (w : List ℕ) (i n : ℕ) → 8 * n ≤ length w → i ≤ n → Eights (rowsFrom w i n)
+pub rowsFrom-eights : (w : List ℕ) (i n : ℕ) → 8 * n ≤ length w → i ≤ n → EightWords (rowsFrom w i n)
 unfolding rowsFrom
 rowsFrom-eights w i n h k = eights-rowsOf (n - i) (drop (8 * i) w) (omega (arith, length-drop (8 * i) w))
 

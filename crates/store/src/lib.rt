@@ -1,3 +1,6 @@
+// Ported from block_store.rs of mahi-mahi-consensus, Copyright (c) Mysten Labs, Inc., Apache-2.0.
+// Changed: written anew in Rattle, with contracts. NOTICE says what was carried across and what was changed.
+
 // The block store (block_store.rs, BlockStore and BlockStoreInner): a value, whose index rows are lent, and the
 // checks with which its calls begin.
 ghost use mathlib.Core.Path.{_≡_};

@@ -12,7 +12,7 @@ use Rattle.laws.specs.Bytes.{bytesAt, written}
 use Rattle.rows.specs.declared.Place.the-variants.{At, Gap}
 use Rattle.tables.specs.declared.Upserted.the-variants.{Count, Full}
 use Rattle.rows.specs.Rows.{rowsOf, key, placeOf, Ascending, leadingBelow}
-use Rattle.tables.specs.Tables.{roomy, pushed, upsertedAt, upserted, countedAt, upsertCount}
+use Rattle.tables.specs.Tables.{hasRoom, pushed, upsertedAt, upserted, countedAt, upsertCount}
 use Rattle.rows.proofs.Words.{bytesAt-words}
 use Rattle.rows.proofs.Rows.{length-rowsOf}
 use Rattle.rows.proofs.Places.{at-place, gap-place, present-row, below-within}
@@ -25,12 +25,12 @@ key-of-row row h = sym (bytesAt-words row 0 6 (omega arith))
 
 -- ---- Room for one row more
 
-pub room : (n count : ℕ) → 8 * count + 8 ≤ n → roomy n count ≡ true
-unfolding roomy
+pub room : (n count : ℕ) → 8 * count + 8 ≤ n → hasRoom n count ≡ true
+unfolding hasRoom
 room n count h = le-leb (8 * count + 8) n h
 
-pub no-room : (n count : ℕ) → n < 8 * count + 8 → roomy n count ≡ false
-unfolding roomy
+pub no-room : (n count : ℕ) → n < 8 * count + 8 → hasRoom n count ≡ false
+unfolding hasRoom
 no-room n count h = lt-leb (8 * count + 8) n h
 
 pub pushed-room : (t : List ℕ) (count : ℕ) (row : List ℕ) → 8 * count + 8 ≤ length t → pushed t count row ≡ written t (8 * count) row

@@ -16,8 +16,8 @@ use Rattle.rows.specs.declared.Place.{Place}
 use Rattle.rows.specs.declared.Place.the-variants.{At, Gap}
 use Rattle.tables.specs.declared.Upserted.{Upserted}
 use Rattle.tables.specs.declared.Upserted.the-variants.{Count, Full}
-use Rattle.rows.specs.Rows.{rowsOf, flat, key, compared, choose, Leads, Ascending, below, present, placeOf}
-use Rattle.tables.specs.Tables.{tableOf, Eights, Table, dropped, upserted, upsertCount, putRow}
+use Rattle.rows.specs.Rows.{rowsOf, flat, key, compared, choose, Leads, Ascending, below, hasKey, placeOf}
+use Rattle.tables.specs.Tables.{tableOf, EightWords, Table, dropped, upserted, upsertCount, putRow}
 use Rattle.rows.proofs.Lexicographic.{order-cases, below-of, above-of, compared-equal, compared-self}
 use Rattle.rows.proofs.Rows.{length-rowsOf, flat-rowsOf, rowsOf-cons, rowsOf-put, rowsOf-pushed, rowsOf-inserted, behind-inserted, rowsOf-dropped, behind-dropped}
 use Rattle.rows.proofs.Ascending.{leads-none, leads-trans}
@@ -26,12 +26,12 @@ use Rattle.tables.proofs.Stores.{at-within, at-words, at-count, gap-wit
 
 -- ---- Rows of eight words
 
-length-flat : (rows : List (List ℕ)) → Eights rows → length (flat rows) ≡ 8 * length rows
+length-flat : (rows : List (List ℕ)) → EightWords rows → length (flat rows) ≡ 8 * length rows
 unfolding flat
 length-flat [] h = refl
 length-flat (r ∷ rows) h = omega (arith, length-append r (flat rows), length-flat rows (h .1), h .0)
 
-pub rowsOf-flat : (rows : List (List ℕ)) (w : List ℕ) → Eights rows → rowsOf (length rows) (flat rows ++ w) ≡ rows
+pub rowsOf-flat : (rows : List (List ℕ)) (w : List ℕ) → EightWords rows → rowsOf (length rows) (flat rows ++ w) ≡ rows
 unfolding rowsOf flat
 rowsOf-flat [] w h = refl
 rowsOf-flat (r ∷ rows) w h =
@@ -39,7 +39,7 @@ rowsOf-flat (r ∷ rows) w h =
     ∙ rowsOf-cons (length rows) r (flat rows ++ w) (h .0)
     ∙ ap (λ (l : List (List ℕ)). r ∷ l) (rowsOf-flat rows w (h .1))
 
-pub eights-rowsOf : (n : ℕ) (w : List ℕ) → 8 * n ≤ length w → Eights (rowsOf n w)
+pub eights-rowsOf : (n : ℕ) (w : List ℕ) → 8 * n ≤ length w → EightWords (rowsOf n w)
 unfolding rowsOf
 eights-rowsOf zero w h = tt
 eights-rowsOf (suc n) w h =
@@ -72,7 +72,7 @@ table-of t n rows fits is behind =
     let as-many : n ≡ length rows = sym (length-rowsOf n t) ∙ ap length is in
     record {
       count = as-many;
-      eights = subst Eights is (eights-rowsOf n t fits);
+      eights = subst EightWords is (eights-rowsOf n t fits);
       fits = fits;
       words =
           sym (take-append-drop (8 * n) t)
@@ -153,16 +153,16 @@ module _ (k x : List ℕ) (rows : List (List ℕ)) where
   unfolding below choose
   below-none g = rw g
 
-  present-next : compared (key x) k ≡ Below → present k (x ∷ rows) ≡ present k rows
-  unfolding present choose
+  present-next : compared (key x) k ≡ Below → hasKey k (x ∷ rows) ≡ hasKey k rows
+  unfolding hasKey choose
   present-next b = rw b
 
-  present-here : compared (key x) k ≡ Equal → present k (x ∷ rows) ≡ true
-  unfolding present choose
+  present-here : compared (key x) k ≡ Equal → hasKey k (x ∷ rows) ≡ true
+  unfolding hasKey choose
   present-here e = rw e
 
-  present-none : compared (key x) k ≡ Above → present k (x ∷ rows) ≡ present k rows
-  unfolding present choose
+  present-none : compared (key x) k ≡ Above → hasKey k (x ∷ rows) ≡ hasKey k rows
+  unfolding hasKey choose
   present-none g = rw g
 
 module _ (row x : List ℕ) (rows : List (List ℕ)) where
@@ -182,9 +182,9 @@ true-false : true ≡ false → ⊥
 true-false e = let z : _≡_ {A = ℕ} 0 1 = cc in omega arith
 
 -- the row with its key is replaced
-pub put-present : (row : List ℕ) (rows : List (List ℕ)) → Ascending rows → present (key row) rows ≡ true
+pub put-present : (row : List ℕ) (rows : List (List ℕ)) → Ascending rows → hasKey (key row) rows ≡ true
     → putRow row rows ≡ set rows (below (key row) rows) row
-unfolding present
+unfolding hasKey
 put-present row [] a p = absurd (true-false (sym p))
 put-present row (x ∷ rows) a p =
     ⊎-elim
@@ -201,13 +201,13 @@ put-present row (x ∷ rows) a p =
     ∙ leads-none (key row) rows (subst (λ (k : List ℕ). Leads k rows) same (a .0)) (a .1) .0 in
     put-here row x rows back ∙ sym (ap (λ (n : ℕ). set (x ∷ rows) n row) none))
     (λ g.
-    let none : present (key row) rows ≡ false =
+    let none : hasKey (key row) rows ≡ false =
     leads-none (key row) rows (leads-trans (key row) (key x) rows (below-of (key x) (key row) g) (a .0)) (a .1) .1 in
     absurd (true-false (sym p ∙ present-none (key row) x rows g ∙ none))))
     (order-cases (compared (key x) (key row)))
 
 -- it joins before the rows with higher keys
-pub put-absent : (row : List ℕ) (rows : List (List ℕ)) → Ascending rows → present (key row) rows ≡ false
+pub put-absent : (row : List ℕ) (rows : List (List ℕ)) → Ascending rows → hasKey (key row) rows ≡ false
     → putRow row rows ≡ take (below (key row) rows) rows ++ row ∷ drop (below (key row) rows) rows
 unfolding putRow below
 put-absent row [] a p = refl
@@ -242,7 +242,7 @@ module _ {t : List ℕ} {n : ℕ} {rows : List (List ℕ)} (h : Table t n rows) 
       let rows-are : rowsOf n (written t (8 * i) row) ≡ putRow row rows =
       rowsOf-put t n i row eight within (h .fits)
       ∙ ap₂ (λ (l : List (List ℕ)) (j : ℕ). set l j row) (table-rows h) (at .1 ∙ ap (below (key row)) (table-rows h))
-      ∙ sym (put-present row rows ascends (sym (ap (present (key row)) (table-rows h)) ∙ at .0)) in
+      ∙ sym (put-present row rows ascends (sym (ap (hasKey (key row)) (table-rows h)) ∙ at .0)) in
       let behind : drop (8 * n) (written t (8 * i) row) ≡ zeros (length (written t (8 * i) row) - 8 * n) =
       drop-past t (8 * i) row (8 * n) (omega arith) (omega (arith, h .fits))
       ∙ table-behind h
@@ -254,7 +254,7 @@ module _ {t : List ℕ} {n : ℕ} {rows : List (List ℕ)} (h : Table t n rows) 
   upsert-gap : (i : ℕ) → placeOf (key row) (rowsOf n t) ≡ Gap i → Stored (upsertCount t n row) (upserted t n row) (putRow row rows)
   upsert-gap i is =
       let gap = gap-place (key row) (rowsOf n t) (sym is) in
-      let absent : present (key row) rows ≡ false = sym (ap (present (key row)) (table-rows h)) ∙ gap .0 in
+      let absent : hasKey (key row) rows ≡ false = sym (ap (hasKey (key row)) (table-rows h)) ∙ gap .0 in
       let at : i ≡ below (key row) rows = gap .1 ∙ ap (below (key row)) (table-rows h) in
       let within : i ≤ n = gap-within t n row (sym is) in
       let put : putRow row rows ≡ take i rows ++ row ∷ drop i rows =

@@ -18,24 +18,24 @@ unfoldable pub tableOf : ℕ → List (List ℕ) → List ℕ
 tableOf n rows = flat rows ++ zeros (n - 8 * length rows)
 
 -- each row has eight words
-abbrev pub Eights : List (List ℕ) → Type 0
-Eights [] = Unit
-Eights (r ∷ rows) = (length r ≡ 8) × Eights rows
+abbrev pub EightWords : List (List ℕ) → Type 0
+EightWords [] = Unit
+EightWords (r ∷ rows) = (length r ≡ 8) × EightWords rows
 
 -- the words t are these rows, n of them, and zeros behind them
 pub record Table (t : List ℕ) (n : ℕ) (rows : List (List ℕ)) : Type 0 where
   pub count : n ≡ length rows
-  pub eights : Eights rows
+  pub eights : EightWords rows
   pub fits : 8 * n ≤ length t
   pub words : t ≡ tableOf (length t) rows
 
 -- whether a table of n words has room for one row more than count
-unfoldable pub roomy : ℕ → ℕ → Bool
-roomy n count = leb (8 * count + 8) n
+unfoldable pub hasRoom : ℕ → ℕ → Bool
+hasRoom n count = leb (8 * count + 8) n
 
 -- a row behind the last one, where there is room
 unfoldable pub pushed : List ℕ → ℕ → List ℕ → List ℕ
-pushed t count row = pick (roomy (length t) count) (written t (8 * count) row) t
+pushed t count row = pick (hasRoom (length t) count) (written t (8 * count) row) t
 
 -- the first n of count rows removed: the others move down, and zeros stand where they ended
 unfoldable pub dropped : List ℕ → ℕ → ℕ → List ℕ
@@ -45,7 +45,7 @@ dropped t count n = written t 0 (bytesAt t (8 * n) (8 * (count - n)) ++ zeros (8
 unfoldable pub upsertedAt : List ℕ → ℕ → List ℕ → Place → List ℕ
 upsertedAt t count row (At i) = written t (8 * i) row
 upsertedAt t count row (Gap i) =
-    pick (roomy (length t) count) (written t (8 * i) (row ++ bytesAt t (8 * i) (8 * (count - i)))) t
+    pick (hasRoom (length t) count) (written t (8 * i) (row ++ bytesAt t (8 * i) (8 * (count - i)))) t
 
 unfoldable pub upserted : List ℕ → ℕ → List ℕ → List ℕ
 upserted t count row = upsertedAt t count row (placeOf (key row) (rowsOf count t))
@@ -53,7 +53,7 @@ upserted t count row = upsertedAt t count row (placeOf (key row) (rowsOf count t
 -- how many rows there are then
 unfoldable pub countedAt : List ℕ → ℕ → Place → Upserted
 countedAt t count (At i) = Count count
-countedAt t count (Gap i) = pick (roomy (length t) count) (Count (count + 1)) Full
+countedAt t count (Gap i) = pick (hasRoom (length t) count) (Count (count + 1)) Full
 
 unfoldable pub upsertCount : List ℕ → ℕ → List ℕ → Upserted
 upsertCount t count row = countedAt t count (placeOf (key row) (rowsOf count t))

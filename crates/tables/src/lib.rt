@@ -6,7 +6,7 @@ ghost use Prim.Native.Nat.{_+_, _-_, _*_, _≤_};
 ghost use lib.ListN.{length};
 ghost use Rattle.laws.specs.Bytes.{bytesAt, written, zeros};
 ghost use Rattle.rows.specs.Rows.{rowsOf, Ascending, leadingBelow};
-ghost use Rattle.tables.specs.Tables.{roomy, pushed, dropped, upserted, upsertCount};
+ghost use Rattle.tables.specs.Tables.{hasRoom, pushed, dropped, upserted, upsertCount};
 use rows::Place;
 
 // How many rows there are once a row is stored, or that there is no room for it.
@@ -93,7 +93,7 @@ pub fn drop_rows(t: &mut [u64], count: usize, n: usize)
 // Stores a row behind the last one, and answers whether there is room for it.
 pub fn push_row(t: &mut [u64], count: usize, row: [u64; 8]) -> bool
     requires { ⌜ 8 * count ≤ length (now t) ⌝ }
-    ensures { λ r. ⌜ r ≡ roomy (length (now (t .entry))) count ⌝ }
+    ensures { λ r. ⌜ r ≡ hasRoom (length (now (t .entry))) count ⌝ }
     ensures { λ _. ⌜ now (t .exit) ≡ pushed (now (t .entry)) count row ⌝ }
 {
     if t.len() - 8 * count < 8 {

@@ -14,11 +14,11 @@ use Rattle.laws.specs.Bytes.{bytesAt, AllBytes}
 use Rattle.laws.specs.Parse.{got, answer}
 use Rattle.laws.proofs.Tests.{leb-cases}
 use Rattle.laws.proofs.Written.{length-bytesAt, bytesAt-take}
-use Rattle.bincode.specs.Cursors.{next, after}
+use Rattle.bincode.specs.Cursors.{nextElement, after}
 use Rattle.bincode.proofs.Cursors.{step-past}
 use Rattle.types.specs.declared.BlockReference.{BlockReference}
 use Rattle.types.specs.Records.{StatementValue, share, statement, BlockValue, block}
-use Rattle.blocks.specs.Answers.{blockOf}
+use Rattle.blocks.specs.Answers.{statementBlock}
 use Rattle.blocks.proofs.Passes.{runs, block-statement-step}
 use Rattle.store.specs.declared.BlockStore.{BlockStore}
 use Rattle.block_reader.specs.Reading as reading
@@ -43,12 +43,12 @@ within-all (v ∷ ss) zero d h = refl
 within-all (v ∷ ss) (suc offset) d h = within-all ss offset d (omega arith)
 
 module _ (s : List ℕ) {b : BlockValue} {e : ℕ} (is : block s 0 ≡ got b e) (offset : ℕ) where
-  given-is : given (next statement s (after statement s offset (blockOf 0 b .statements))) ≡ transactionIn (b .statements) offset
+  given-is : given (nextElement statement s (after statement s offset (statementBlock 0 b .statements))) ≡ transactionIn (b .statements) offset
   unfolding given
   given-is =
       ⊎-elim
       (λ y.
-      ap given (step-past statement s offset (blockOf 0 b .statements) (runs s 0 is .statements) (y .1)) ∙ sym (past-all (b .statements) offset (y .1)))
+      ap given (step-past statement s offset (statementBlock 0 b .statements) (runs s 0 is .statements) (y .1)) ∙ sym (past-all (b .statements) offset (y .1)))
       (λ n.
       let at = block-statement-step s 0 is offset (share []) (n .1) in
       ap given (at .1) ∙ sym (within-all (b .statements) offset (share []) (n .1)))
@@ -56,7 +56,7 @@ module _ (s : List ℕ) {b : BlockValue} {e : ℕ} (is : block s 0 ≡ got b e) 
 
   pub share-named : named s (shareIn s offset) ≡ transactionIn (b .statements) offset
   unfolding shareIn answer
-  share-named = rw is (next-lies s (after statement s offset (blockOf 0 b .statements)) .names ∙ given-is)
+  share-named = rw is (next-lies s (after statement s offset (statementBlock 0 b .statements)) .names ∙ given-is)
 
 -- ---- In the image
 

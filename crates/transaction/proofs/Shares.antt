@@ -13,7 +13,7 @@ use Rattle.laws.specs.Parse.{Res, bad, got, then, number, answer}
 use Rattle.laws.proofs.Parses.{found-none, found-some, answered}
 use Rattle.bincode.specs.declared.Cursor.{Cursor}
 use Rattle.bincode.specs.Bincode.{byteString}
-use Rattle.bincode.specs.Cursors.{next, past, after}
+use Rattle.bincode.specs.Cursors.{nextElement, past, after}
 use Rattle.bincode.proofs.Rules.{bytes-found}
 use Rattle.types.specs.declared.TransactionLocator.{TransactionLocator}
 use Rattle.types.specs.declared.TransactionLocatorRange.{TransactionLocatorRange}
@@ -23,7 +23,7 @@ use Rattle.statements.specs.declared.StatementKind.the-variants as kind
 use Rattle.statements.specs.declared.NextStatement.{NextStatement}
 use Rattle.statements.specs.Answers.{statementOf, noNextStatement, nextStatementAnswer}
 use Rattle.blocks.specs.declared.DecodedBlock.{DecodedBlock}
-use Rattle.blocks.specs.Answers.{blockOf, noBlock, blockAnswer}
+use Rattle.blocks.specs.Answers.{statementBlock, noBlock, blockAnswer}
 use Rattle.blocks.proofs.Found.{block-bad}
 use Rattle.transaction.specs.declared.Share.{Share}
 use Rattle.transaction.specs.Transaction.{noShare, shareOf, shareIn, shareBytes, named}
@@ -70,9 +70,9 @@ module _ (c : Cursor) (x : Res StatementValue) {r : NextStatement} (is : r ≡ n
 
 module _ (s : List ℕ) (offset : ℕ) where
   pub stepped : {c₀ : Cursor} {i : ℕ} {c : Cursor} → Stepping statement s offset c₀ i c → i < offset
-      → {r : NextStatement} → r ≡ nextStatementAnswer c (next statement s c) → r .ok ≡ true → Stepping statement s offset c₀ (i + 1) (r .rest)
+      → {r : NextStatement} → r ≡ nextStatementAnswer c (nextElement statement s c) → r .ok ≡ true → Stepping statement s offset c₀ (i + 1) (r .rest)
   stepped {c₀} {i} {c} h more is ok =
-      let found = some-statement c (next statement s c) is ok in
+      let found = some-statement c (nextElement statement s c) is ok in
       subst (λ (c : Cursor). Stepping statement s offset c₀ (i + 1) c) (sym (found .2)) (stepping-next statement s h more (found .1))
 
   module _ {d : DecodedBlock} (is : d ≡ blockAnswer 0 (block s 0)) where
@@ -80,19 +80,19 @@ module _ (s : List ℕ) (offset : ℕ) where
     unfolding shareIn answer
     undecoded e = sym (rw (block-bad 0 (block s 0) is e))
 
-    decoded : d .ok ≡ true → shareOf (next statement s (after statement s offset (d .block .statements))) ≡ shareIn s offset
+    decoded : d .ok ≡ true → shareOf (nextElement statement s (after statement s offset (d .block .statements))) ≡ shareIn s offset
     unfolding shareIn
     decoded e =
         answered noBlock _ noShare _ (λ d. d .ok) refl
-        (λ (d : DecodedBlock). shareOf (next statement s (after statement s offset (d .block .statements)))) (λ b e. refl) (block s 0) is e
+        (λ (d : DecodedBlock). shareOf (nextElement statement s (after statement s offset (d .block .statements)))) (λ b e. refl) (block s 0) is e
 
     module _ (ok : d .ok ≡ true) {i : ℕ} {c : Cursor} (h : Stepping statement s offset (d .block .statements) i c) where
-      pub stopped : next statement s c ≡ bad → noShare ≡ shareIn s offset
+      pub stopped : nextElement statement s c ≡ bad → noShare ≡ shareIn s offset
       unfolding shareOf
       stopped b = ap shareOf (sym (stepping-none statement s h b)) ∙ decoded ok
 
-      pub reached : offset ≤ i → shareOf (next statement s c) ≡ shareIn s offset
-      reached all = ap (λ (c : Cursor). shareOf (next statement s c)) (sym (stepping-end statement s h all)) ∙ decoded ok
+      pub reached : offset ≤ i → shareOf (nextElement statement s c) ≡ shareIn s offset
+      reached all = ap (λ (c : Cursor). shareOf (nextElement statement s c)) (sym (stepping-end statement s h all)) ∙ decoded ok
 
 -- ---- What it names
 
@@ -147,8 +147,8 @@ module _ (s : List ℕ) where
       (lies-pick (eqb variant 1) (lies-then (locator s e) (λ l f is. lies-then (vote s f) (λ v g is. lies-vote l v g)))
       (lies-pick (eqb variant 2) (lies-then (range s e) (λ r f is. lies-range r f)) lies-bad)))
 
-  pub next-lies : (c : Cursor) → Lies s (next statement s c)
-  unfolding next
+  pub next-lies : (c : Cursor) → Lies s (nextElement statement s c)
+  unfolding nextElement
   next-lies c = lies-pick (eqb (c .left) 0) lies-bad (statement-lies (c .at))
 
   pub share-within : (offset : ℕ) → shareIn s offset .at + shareIn s offset .len ≤ length s
@@ -156,7 +156,7 @@ module _ (s : List ℕ) where
   share-within offset = by (block s 0)
     where
       by : (x : Res BlockValue)
-          → answer noShare (λ (b : BlockValue) e. shareOf (next statement s (after statement s offset (blockOf 0 b .statements)))) x .at
-          + answer noShare (λ (b : BlockValue) e. shareOf (next statement s (after statement s offset (blockOf 0 b .statements)))) x .len ≤ length s
+          → answer noShare (λ (b : BlockValue) e. shareOf (nextElement statement s (after statement s offset (statementBlock 0 b .statements)))) x .at
+          + answer noShare (λ (b : BlockValue) e. shareOf (nextElement statement s (after statement s offset (statementBlock 0 b .statements)))) x .len ≤ length s
       by bad = omega arith
-      by (got b e) = next-lies (after statement s offset (blockOf 0 b .statements)) .within
+      by (got b e) = next-lies (after statement s offset (statementBlock 0 b .statements)) .within

@@ -6,15 +6,15 @@ use native.Mathlib.Numerals.{sub-one}
 use native.Mathlib.Omega.{arith}
 use Rattle.laws.specs.Parse.{bad, got, Parser, answer}
 use Rattle.bincode.specs.declared.Cursor.{Cursor}
-use Rattle.bincode.specs.Cursors.{next, past, after}
+use Rattle.bincode.specs.Cursors.{nextElement, past, after}
 
 module _ {A : Type 0} (f : Parser A) (s : List ℕ) where
-  after-none : (n : ℕ) (c : Cursor) → next f s c ≡ bad → after f s n c ≡ c
+  after-none : (n : ℕ) (c : Cursor) → nextElement f s c ≡ bad → after f s n c ≡ c
   unfolding after answer
   after-none zero c b = refl
   after-none (suc n) c b = rw b
 
-  after-next : (n : ℕ) (c : Cursor) {x : A} {e : ℕ} → 0 < n → next f s c ≡ got x e → after f s n c ≡ after f s (n - 1) (past c e)
+  after-next : (n : ℕ) (c : Cursor) {x : A} {e : ℕ} → 0 < n → nextElement f s c ≡ got x e → after f s n c ≡ after f s (n - 1) (past c e)
   unfolding after answer
   after-next zero c h g = absurd (omega arith)
   after-next (suc n) c h g = rw (g, sub-one (suc n))
@@ -30,7 +30,7 @@ module _ {A : Type 0} (f : Parser A) (s : List ℕ) where
       record { within = omega arith; same = ap (λ (m : ℕ). after f s m c) none }
 
   module _ {n : ℕ} {c₀ : Cursor} {i : ℕ} {c : Cursor} (h : Stepping n c₀ i c) where
-    pub stepping-next : i < n → {x : A} {e : ℕ} → next f s c ≡ got x e → Stepping n c₀ (i + 1) (past c e)
+    pub stepping-next : i < n → {x : A} {e : ℕ} → nextElement f s c ≡ got x e → Stepping n c₀ (i + 1) (past c e)
     stepping-next more {x} {e} g =
         let one : n - i - 1 ≡ n - (i + 1) = omega arith in
         record {
@@ -39,8 +39,8 @@ module _ {A : Type 0} (f : Parser A) (s : List ℕ) where
         }
 
     -- where there is no element, there is none behind the steps that are left
-    pub stepping-none : next f s c ≡ bad → next f s (after f s n c₀) ≡ bad
-    stepping-none b = ap (next f s) (h .same ∙ after-none (n - i) c b) ∙ b
+    pub stepping-none : nextElement f s c ≡ bad → nextElement f s (after f s n c₀) ≡ bad
+    stepping-none b = ap (nextElement f s) (h .same ∙ after-none (n - i) c b) ∙ b
 
     pub stepping-end : n ≤ i → after f s n c₀ ≡ c
     unfolding after

@@ -7,7 +7,7 @@ use lib.ListN.{length, getD}
 use Rattle.laws.specs.Pick.{pick}
 use Rattle.laws.specs.Bytes.{bytesAt}
 use Rattle.laws.specs.Parse.{Res, bad, got, answer}
-use Rattle.bincode.specs.Cursors.{next, after}
+use Rattle.bincode.specs.Cursors.{nextElement, after}
 use Rattle.types.specs.declared.TransactionLocator.{TransactionLocator}
 use Rattle.types.specs.Records.{StatementValue, share, voteOn, voteRange, statement, BlockValue, block}
 use Rattle.blocks.specs.Answers as blocks
@@ -34,7 +34,7 @@ shareOf (got (voteRange r) e) = noShare
 -- the statement with this offset in a block's bytes; there is none past the last
 unfoldable pub shareIn : List ℕ → ℕ → Share
 shareIn s offset =
-    answer noShare (λ (b : BlockValue) e. shareOf (next statement s (after statement s offset (blocks.blockOf 0 b .statements)))) (block s 0)
+    answer noShare (λ (b : BlockValue) e. shareOf (nextElement statement s (after statement s offset (blocks.statementBlock 0 b .statements)))) (block s 0)
 
 -- behind a block's place in the image
 unfoldable pub placed : ℕ → Share → Share

@@ -1,9 +1,12 @@
+// Ported from block_store.rs of mahi-mahi-consensus, Copyright (c) Mysten Labs, Inc., Apache-2.0.
+// Changed: written anew in Rattle, with contracts. NOTICE says what was carried across and what was changed.
+
 // A transaction by its locator (block_store.rs, get_transaction). The answer is a part of the image.
 ghost use mathlib.Core.Path.{_≡_};
 ghost use mathlib.Core.List.{[], _∷_};
 ghost use Prim.Native.Nat.{_+_, _*_, _≤_};
 ghost use lib.ListN.{length};
-ghost use Rattle.bincode.specs.Cursors.{next};
+ghost use Rattle.bincode.specs.Cursors.{nextElement};
 ghost use Rattle.types.specs.Records.{statement};
 ghost use Rattle.rows.specs.Rows.{rowAt};
 ghost use Rattle.transaction.specs.Transaction.{shareOf, shareIn, refusedAnswer, transactionOf, getTransaction};
@@ -58,7 +61,7 @@ pub fn share_in(block: &[u8], offset: u64) -> Share
 
 // The Share at a cursor's place.
 fn share_at(block: &[u8], c: Cursor) -> Share
-    ensures { λ r. ⌜ r ≡ shareOf (next statement (now (block .entry)) c) ⌝ }
+    ensures { λ r. ⌜ r ≡ shareOf (nextElement statement (now (block .entry)) c) ⌝ }
 {
     let s = statements::next_statement(block, c);
     if !s.ok {

@@ -1,3 +1,6 @@
+// Ported from types.rs of mahi-mahi-consensus, Copyright (c) Mysten Labs, Inc., Apache-2.0.
+// Changed: written anew in Rattle, with contracts. NOTICE says what was carried across and what was changed.
+
 // References, locators and ranges (types.rs) and their decoders. Each decoder takes any place and
 // any bytes, and answers the record that stands there and the place behind it, or that there is
 // none. specs/ has the records of votes, statements and blocks too; their decoders are the crates
@@ -12,7 +15,7 @@ ghost use Prim.Native.Nat.{_+_, _*_};
 ghost use Rattle.laws.specs.Parse.{many};
 ghost use Rattle.bincode.specs.Bincode.{vec};
 ghost use Rattle.bincode.specs.Answers.{endAnswer, partAnswer};
-ghost use Rattle.bincode.specs.Cursors.{next};
+ghost use Rattle.bincode.specs.Cursors.{nextElement};
 ghost use Rattle.types.specs.Records.{reference, locator, range};
 ghost use Rattle.types.specs.Answers.{noReference, referenceAnswer, noNextReference, nextReferenceAnswer, noLocator, locatorAnswer, noRange, rangeAnswer};
 
@@ -237,7 +240,7 @@ fn no_next_reference() -> NextReference
 
 // A step of a pass over references.
 pub fn next_reference(s: &[u8], c: Cursor) -> NextReference
-    ensures { λ r. ⌜ r ≡ nextReferenceAnswer c (next reference (now (s .entry)) c) ⌝ }
+    ensures { λ r. ⌜ r ≡ nextReferenceAnswer c (nextElement reference (now (s .entry)) c) ⌝ }
 {
     let at = c.at;
     let left = c.left;

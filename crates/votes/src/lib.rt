@@ -1,3 +1,6 @@
+// Ported from types.rs of mahi-mahi-consensus, Copyright (c) Mysten Labs, Inc., Apache-2.0.
+// Changed: written anew in Rattle, with contracts. NOTICE says what was carried across and what was changed.
+
 // Votes (types.rs) and their decoder. It takes any place and any bytes, and answers the vote that
 // stands there and the place behind it, or that there is none.
 use bincode::Flag;

@@ -9,8 +9,8 @@ use Rattle.bincode.proofs.Found.{part-bad, part-got}
 use Rattle.types.specs.declared.BlockReference.{BlockReference}
 use Rattle.types.specs.Records.{reference, StatementValue, statement as parser, block}
 use Rattle.types.proofs.Found.{reference-told}
-use Rattle.blocks.specs.Answers.{seal}
-use Rattle.blocks.proofs.Found.{seal-told}
+use Rattle.blocks.specs.Answers.{trailer}
+use Rattle.blocks.proofs.Found.{trailer-told}
 use Rattle.blocks.proofs.Places.{block-upto, block-got}
 use Rattle.blocks.proofs.decode_block.Statement.{statement}
 use Rattle.blocks.proofs.decode_block.Tie as tie
@@ -84,8 +84,8 @@ returns-3 c =
     )
     (c .no-block3 .ensures)
 
-decode-seal-requires : tie.Need-decode-seal-requires
-decode-seal-requires c κs = search needs
+decode-trailer-requires : tie.Need-decode-trailer-requires
+decode-trailer-requires c κs = search needs
 
 no-block-requires-4 : tie.Need-no-block-requires-4
 no-block-requires-4 c κs = search needs
@@ -96,7 +96,7 @@ returns-4 c =
     let a = c .before .before .before .before .before .before .before .before .before .before .before .before .before .before .before .before .args in
     rw (
       block-upto (a .s .now) (a .at) (own (c .before .before .before .before .before .before .before .before .before .before .before .before)) (includes (c .before .before .before .before .before .before .before .before .before) .1) (statements (c .before .before .before .before .before) .1),
-      seal-told (seal (a .s .now) (c .before .before .before .before .before .statements .given .0 .1 .1 .0)) (c .before .before .before .decode-seal .ensures) (not-true _ (c .before .if2 .taken)),
+      trailer-told (trailer (a .s .now) (c .before .before .before .before .before .statements .given .0 .1 .1 .0)) (c .before .before .before .decode-trailer .ensures) (not-true _ (c .before .if2 .taken)),
     )
     (c .no-block4 .ensures)
 
@@ -106,7 +106,7 @@ returns-5 c =
     let a = c .before .before .before .before .before .before .before .before .before .before .before .before .before .before .before .before .before .before .args in
     block-got (a .s .now) (a .at) (own (c .before .before .before .before .before .before .before .before .before .before .before .before .before .before))
     (c .before .before .before .before .before .before .before .before .before .before .before .before .before .decode-references .ensures) (c .before .before .before .before .before .before .before .before .before .before .before .includes .given .1) (c .before .before .before .before .before .before .before .before .before .decode-statements .ensures) (c .before .before .before .before .before .before .before .statements .given .1)
-    (seal-told (seal (a .s .now) (c .before .before .before .before .before .before .before .statements .given .0 .1 .1 .0)) (c .before .before .before .before .before .decode-seal .ensures) (not-false _ (c .before .before .before .if2 .left)))
+    (trailer-told (trailer (a .s .now) (c .before .before .before .before .before .before .before .statements .given .0 .1 .1 .0)) (c .before .before .before .before .before .decode-trailer .ensures) (not-false _ (c .before .before .before .if2 .left)))
 
 pub decode-block-spec : {M : Type 1} → statement M
 decode-block-spec =
@@ -125,7 +125,7 @@ decode-block-spec =
     enum-told-2
     no-block-requires-3
     returns-3
-    decode-seal-requires
+    decode-trailer-requires
     no-block-requires-4
     returns-4
     returns-5)

@@ -7,7 +7,7 @@ use Rattle.exists.proofs.Answering.{answer-refused, answer-yes, answer-
 use Prim.Native.Nat.{ℕ}
 use mathlib.Core.List.{List}
 use Rattle.index.specs.Keys.{keyWords}
-use Rattle.rows.specs.Rows.{rowsOf, present, placeOf}
+use Rattle.rows.specs.Rows.{rowsOf, hasKey, placeOf}
 use Rattle.rows.proofs.Places.{at-place, gap-place}
 use borrow.Author.Needs.{needs}
 use Rattle.exists.proofs.block_exists.Statement.{statement}
@@ -20,7 +20,7 @@ returns : tie.Need-returns
 returns c =
     let a = c .before .before .before .before .args in
     let number = c .before .check-call .ensures in
-    answer-refused (callCheck (a .k) (a .used) (length (a .image .now)) (a .store) (a .index .now)) number (present (keyWords (a .reference)) (indexed (a .store) (a .index .now))) (c .if1 .taken)
+    answer-refused (callCheck (a .k) (a .used) (length (a .image .now)) (a .store) (a .index .now)) number (hasKey (keyWords (a .reference)) (indexed (a .store) (a .index .now))) (c .if1 .taken)
 
 key-of-requires : tie.Need-key-of-requires
 key-of-requires c κs = search needs
@@ -44,7 +44,7 @@ returns-2 c =
     let a = c .before .before .before .before .before .before .before .before .args in
     let number = c .before .before .before .before .before .check-call .ensures in
     let at = at-place (keyWords (a .reference)) (rowsOf (a .store .rows) (a .index .now)) (sym (c .enum-told .given .1) ∙ c .before .before .find .ensures ∙ ap (λ (k : List ℕ). placeOf k (rowsOf (a .store .rows) (a .index .now))) (c .before .before .before .key-of .ensures)) in
-    answer-yes (callCheck (a .k) (a .used) (length (a .image .now)) (a .store) (a .index .now)) number (present (keyWords (a .reference)) (indexed (a .store) (a .index .now))) (c .before .before .before .before .if1 .left) (at .0)
+    answer-yes (callCheck (a .k) (a .used) (length (a .image .now)) (a .store) (a .index .now)) number (hasKey (keyWords (a .reference)) (indexed (a .store) (a .index .now))) (c .before .before .before .before .if1 .left) (at .0)
 
 returns-3 : tie.Need-returns-3
 unfolding indexed
@@ -52,7 +52,7 @@ returns-3 c =
     let a = c .before .before .before .before .before .before .before .before .args in
     let number = c .before .before .before .before .before .check-call .ensures in
     let gap = gap-place (keyWords (a .reference)) (rowsOf (a .store .rows) (a .index .now)) (sym (c .enum-told2 .given .1) ∙ c .before .before .find .ensures ∙ ap (λ (k : List ℕ). placeOf k (rowsOf (a .store .rows) (a .index .now))) (c .before .before .before .key-of .ensures)) in
-    answer-no (callCheck (a .k) (a .used) (length (a .image .now)) (a .store) (a .index .now)) number (present (keyWords (a .reference)) (indexed (a .store) (a .index .now))) (c .before .before .before .before .if1 .left) (gap .0)
+    answer-no (callCheck (a .k) (a .used) (length (a .image .now)) (a .store) (a .index .now)) number (hasKey (keyWords (a .reference)) (indexed (a .store) (a .index .now))) (c .before .before .before .before .if1 .left) (gap .0)
 
 pub block-exists-spec : {M : Type 1} → statement M
 block-exists-spec =

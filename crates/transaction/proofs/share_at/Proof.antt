@@ -1,7 +1,7 @@
 -- `transaction::share_at` meets its contract: what the step answers tells the kind of the statement. Assumes nothing.
 use borrow.Author.Tests.{not-true, not-false}
 use borrow.Author.Needs.{needs}
-use Rattle.bincode.specs.Cursors.{next}
+use Rattle.bincode.specs.Cursors.{nextElement}
 use Rattle.types.specs.Records as records
 use Rattle.transaction.specs.Transaction.{noShare}
 use Rattle.transaction.proofs.Shares.{share-none, share-kind}
@@ -15,7 +15,7 @@ returns : tie.Need-returns
 unfolding noShare
 returns c =
     let a = c .before .before .before .before .args in
-    share-none (a .c) (next records.statement (a .block .now) (a .c)) (c .before .before .next-statement .ensures) (not-true _ (c .if1 .taken))
+    share-none (a .c) (nextElement records.statement (a .block .now) (a .c)) (c .before .before .next-statement .ensures) (not-true _ (c .if1 .taken))
 
 enum-told : tie.Need-enum-told
 enum-told c = search needs
@@ -30,19 +30,19 @@ returns-2 : tie.Need-returns-2
 unfolding noShare
 returns-2 c =
     let a = c .before .before .before .before .before .before .before .args in
-    share-kind (a .c) (next records.statement (a .block .now) (a .c)) (c .before .before .before .before .before .next-statement .ensures) (not-false _ (c .before .before .before .if1 .left)) (c .enum-told .given .1)
+    share-kind (a .c) (nextElement records.statement (a .block .now) (a .c)) (c .before .before .before .before .before .next-statement .ensures) (not-false _ (c .before .before .before .if1 .left)) (c .enum-told .given .1)
 
 returns-3 : tie.Need-returns-3
 unfolding noShare
 returns-3 c =
     let a = c .before .before .before .before .before .before .before .args in
-    share-kind (a .c) (next records.statement (a .block .now) (a .c)) (c .before .before .before .before .before .next-statement .ensures) (not-false _ (c .before .before .before .if1 .left)) (c .enum-told2 .given .1)
+    share-kind (a .c) (nextElement records.statement (a .block .now) (a .c)) (c .before .before .before .before .before .next-statement .ensures) (not-false _ (c .before .before .before .if1 .left)) (c .enum-told2 .given .1)
 
 returns-4 : tie.Need-returns-4
 unfolding noShare
 returns-4 c =
     let a = c .before .before .before .before .before .before .before .args in
-    share-kind (a .c) (next records.statement (a .block .now) (a .c)) (c .before .before .before .before .before .next-statement .ensures) (not-false _ (c .before .before .before .if1 .left)) (c .enum-told3 .given .1)
+    share-kind (a .c) (nextElement records.statement (a .block .now) (a .c)) (c .before .before .before .before .before .next-statement .ensures) (not-false _ (c .before .before .before .if1 .left)) (c .enum-told3 .given .1)
 
 pub share-at-spec : {M : Type 1} → statement M
 share-at-spec =

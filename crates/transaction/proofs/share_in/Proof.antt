@@ -4,7 +4,7 @@ use Prim.Native.Nat.{_-_}
 use native.Mathlib.Omega.{arith}
 use borrow.Author.Needs.{needs}
 use borrow.Author.Tests.{not-true, not-false}
-use Rattle.bincode.specs.Cursors.{next}
+use Rattle.bincode.specs.Cursors.{nextElement}
 use Rattle.types.specs.Records as records
 use Rattle.transaction.specs.Transaction.{noShare}
 use Rattle.transaction.proofs.Steps.{Stepping, stepping-start}
@@ -42,7 +42,7 @@ returns-2 c =
     let decoded = looped .before .before .before .before .before in
     let a = decoded .before .before .args in
     stopped (a .block .now) (a .offset) (decoded .decode-block .ensures) (not-false _ (looped .before .before .before .if1 .left)) (looped .loop .inv)
-    (no-statement (looped .loop .c) (next records.statement (a .block .now) (looped .loop .c)) (c .before .before .next-statement .ensures) (not-true _ (c .if2 .taken)))
+    (no-statement (looped .loop .c) (nextElement records.statement (a .block .now) (looped .loop .c)) (c .before .before .next-statement .ensures) (not-true _ (c .if2 .taken)))
 
 add-i : tie.Need-add-i Inv-loop μ-loop
 add-i c = omega arith

@@ -1,4 +1,4 @@
--- `blocks::decode_seal` meets its contract. Assumes nothing.
+-- `blocks::decode_trailer` meets its contract. Assumes nothing.
 use borrow.Author.Needs.{needs}
 use borrow.Author.Tests.{not-true, not-false}
 use mathlib.Core.Path.{_≡_}
@@ -7,9 +7,9 @@ use Rattle.bincode.specs.Bincode.{bool}
 use Rattle.bincode.proofs.Found.{number-told, flag-told}
 use Rattle.crypto.specs.Records.{signature}
 use Rattle.crypto.proofs.Found.{signature-told}
-use Rattle.blocks.specs.Answers.{seal}
-use Rattle.blocks.proofs.decode_seal.Statement.{statement}
-use Rattle.blocks.proofs.decode_seal.Tie as tie
+use Rattle.blocks.specs.Answers.{trailer}
+use Rattle.blocks.proofs.decode_trailer.Statement.{statement}
+use Rattle.blocks.proofs.decode_trailer.Tie as tie
 
 -- what each step found, at the place behind it
 
@@ -31,15 +31,15 @@ enum-known-low c = search needs
 enum-told : tie.Need-enum-told
 enum-told c = search needs
 
-no-seal-requires : tie.Need-no-seal-requires
-no-seal-requires c κs = search needs
+no-trailer-requires : tie.Need-no-trailer-requires
+no-trailer-requires c κs = search needs
 
 returns : tie.Need-returns
-unfolding answer then seal
+unfolding answer then trailer
 returns c =
     let a = c .before .before .before .before .before .args in
     rw (number-told (number 8 (a .s .now) (a .at)) (c .before .before .before .decode-u64 .ensures) (c .before .enum-told .given .1))
-    (c .no-seal .ensures)
+    (c .no-trailer .ensures)
 
 decode-u64-requires-2 : tie.Need-decode-u64-requires-2
 decode-u64-requires-2 c κs = search needs
@@ -50,18 +50,18 @@ enum-known-high c = search needs
 enum-told-2 : tie.Need-enum-told-2
 enum-told-2 c = search needs
 
-no-seal-requires-2 : tie.Need-no-seal-requires-2
-no-seal-requires-2 c κs = search needs
+no-trailer-requires-2 : tie.Need-no-trailer-requires-2
+no-trailer-requires-2 c κs = search needs
 
 returns-2 : tie.Need-returns-2
-unfolding answer then seal
+unfolding answer then trailer
 returns-2 c =
     let a = c .before .before .before .before .before .before .before .before .before .args in
     rw (
       low (c .before .before .before .before .before),
       number-told (number 8 (a .s .now) (c .before .before .before .before .before .low .given .0 .1 .0)) (c .before .before .before .decode-u642 .ensures) (c .before .enum-told2 .given .1),
     )
-    (c .no-seal2 .ensures)
+    (c .no-trailer2 .ensures)
 
 decode-bool-requires : tie.Need-decode-bool-requires
 decode-bool-requires c κs = search needs
@@ -72,11 +72,11 @@ enum-known-epoch-marker c = search needs
 enum-told-3 : tie.Need-enum-told-3
 enum-told-3 c = search needs
 
-no-seal-requires-3 : tie.Need-no-seal-requires-3
-no-seal-requires-3 c κs = search needs
+no-trailer-requires-3 : tie.Need-no-trailer-requires-3
+no-trailer-requires-3 c κs = search needs
 
 returns-3 : tie.Need-returns-3
-unfolding answer then seal
+unfolding answer then trailer
 returns-3 c =
     let a = c .before .before .before .before .before .before .before .before .before .before .before .before .before .args in
     rw (
@@ -84,16 +84,16 @@ returns-3 c =
       high (c .before .before .before .before .before),
       flag-told (bool (a .s .now) (c .before .before .before .before .before .high .given .0 .1 .0)) (c .before .before .before .decode-bool .ensures) (c .before .enum-told3 .given .1),
     )
-    (c .no-seal3 .ensures)
+    (c .no-trailer3 .ensures)
 
 decode-signature-requires : tie.Need-decode-signature-requires
 decode-signature-requires c κs = search needs
 
-no-seal-requires-4 : tie.Need-no-seal-requires-4
-no-seal-requires-4 c κs = search needs
+no-trailer-requires-4 : tie.Need-no-trailer-requires-4
+no-trailer-requires-4 c κs = search needs
 
 returns-4 : tie.Need-returns-4
-unfolding answer then seal
+unfolding answer then trailer
 returns-4 c =
     let a = c .before .before .before .before .before .before .before .before .before .before .before .before .before .before .before .before .before .args in
     rw (
@@ -102,10 +102,10 @@ returns-4 c =
       epoch-marker (c .before .before .before .before .before),
       signature-told (signature (a .s .now) (c .before .before .before .before .before .epoch-marker .given .0 .1 .0)) (c .before .before .before .decode-signature .ensures) (not-true _ (c .before .if1 .taken)),
     )
-    (c .no-seal4 .ensures)
+    (c .no-trailer4 .ensures)
 
 returns-5 : tie.Need-returns-5
-unfolding answer then seal
+unfolding answer then trailer
 returns-5 c =
     let a = c .before .before .before .before .before .before .before .before .before .before .before .before .before .before .before .before .before .args in
     rw (
@@ -115,26 +115,26 @@ returns-5 c =
       signature-told (signature (a .s .now) (c .before .before .before .before .before .epoch-marker .given .0 .1 .0)) (c .before .before .before .decode-signature .ensures) (not-false _ (c .before .if1 .left)),
     )
 
-pub decode-seal-spec : {M : Type 1} → statement M
-decode-seal-spec =
+pub decode-trailer-spec : {M : Type 1} → statement M
+decode-trailer-spec =
     tie.close
     (tie.spec
     decode-u64-requires
     enum-known-low
     enum-told
-    no-seal-requires
+    no-trailer-requires
     returns
     decode-u64-requires-2
     enum-known-high
     enum-told-2
-    no-seal-requires-2
+    no-trailer-requires-2
     returns-2
     decode-bool-requires
     enum-known-epoch-marker
     enum-told-3
-    no-seal-requires-3
+    no-trailer-requires-3
     returns-3
     decode-signature-requires
-    no-seal-requires-4
+    no-trailer-requires-4
     returns-4
     returns-5)

@@ -22,8 +22,8 @@ use Rattle.tables.specs.Tables.{upserted, upsertCount, putRow}
 use Rattle.index.specs.Keys.{Digested}
 use Rattle.index.specs.Summary.{summaryWith}
 use Rattle.index.specs.declared.StoreSummary.{StoreSummary}
-use Rattle.replay.specs.Items.{Item, isBlock, isPayload, isOwnBlock, isState, isCommit, Judged, refuse, item, judge, Read, blockIn}
-use Rattle.replay.specs.Rules.{Block, blockOf, index}
+use Rattle.replay.specs.Items.{Item, isBlock, isPayload, isOwnBlock, isState, isCommit, Classified, refuse, item, classify, ReplayEntry, blockIn}
+use Rattle.replay.specs.Rules.{Block, blocksIn, index}
 use Rattle.replay.specs.Recovery.{recovered}
 use Rattle.replay.proofs.Applied.{references, index-same, index-block}
 use Rattle.state.specs.declared.Replay.{Replay}
@@ -41,8 +41,8 @@ use Rattle.store.proofs.Checked.{Checked}
 use Rattle.insert.specs.Insert as insert
 use Rattle.insert.specs.Insert.{Decoded, good}
 use Rattle.indexing.specs.Indexing.{loadedRow, storeWith}
-use Rattle.reopened.specs.Reopened.{unloadedRow, Mirrors}
-use Rattle.reopened.proofs.Judging.{readOf, read-refused, read-judged}
+use Rattle.reopened.specs.Reopened.{unloadedRow, AgreesWith}
+use Rattle.reopened.proofs.Classifying.{readOf, read-refused, read-classified}
 use Rattle.reopened.proofs.Rows.{rows-upserted, put-unloaded, loaded-unloaded, blocks-unloaded, table-blocks}
 
 -- ---- An entry that holds no block
@@ -53,8 +53,8 @@ module _ (a : Entry) (one : a .tag ≡ 1 → ⊥) (three : a .tag ≡ 3 → ⊥)
   commit-no-block bad h = let z : _≡_ {A = ℕ} 0 1 = cc in absurd (omega arith)
   commit-no-block (got c e) {i} h = let is : isCommit c ≡ i = cc in ap blockIn (sym is)
 
-  pub item-no-block : {i : Item} → judge a ≡ item i → blockIn i ≡ none
-  unfolding judge pick blockIn
+  pub item-no-block : {i : Item} → classify a ≡ item i → blockIn i ≡ none
+  unfolding classify pick blockIn
   item-no-block {i} h =
       ⊎-elim
       (λ two.
@@ -81,81 +81,81 @@ module _ (a : Entry) (one : a .tag ≡ 1 → ⊥) (three : a .tag ≡ 3 → ⊥)
       (eqb-cases (a .tag) 4))
       (eqb-cases (a .tag) 2)
 
-  held-none : {i : Item} → judge a ≡ item i → blockOf (record { entry = a; item = i }) ≡ []
-  unfolding blockOf
-  held-none h = rw (item-no-block h, blockOf)
+  held-none : {i : Item} → classify a ≡ item i → blocksIn (record { entry = a; item = i }) ≡ []
+  unfolding blocksIn
+  held-none h = rw (item-no-block h, blocksIn)
 
   -- index and summary stay as they were
-  pub no-block-read : (own : ℕ) (l : List Read) → (index (l ++ readOf a) ≡ index l) × (summaryOf own (l ++ readOf a) ≡ summaryOf own l)
-  no-block-read own l = from (judge a) refl
+  pub no-block-read : (own : ℕ) (l : List ReplayEntry) → (index (l ++ readOf a) ≡ index l) × (summaryOf own (l ++ readOf a) ≡ summaryOf own l)
+  no-block-read own l = from (classify a) refl
     where
-      from : (j : Judged) → judge a ≡ j → (index (l ++ readOf a) ≡ index l) × (summaryOf own (l ++ readOf a) ≡ summaryOf own l)
+      from : (j : Classified) → classify a ≡ j → (index (l ++ readOf a) ≡ index l) × (summaryOf own (l ++ readOf a) ≡ summaryOf own l)
       from (refuse n) e =
-          let same : l ++ readOf a ≡ l = ap (λ (m : List Read). l ++ m) (read-refused a e) ∙ append-nil l in
+          let same : l ++ readOf a ≡ l = ap (λ (m : List ReplayEntry). l ++ m) (read-refused a e) ∙ append-nil l in
           (ap index same, ap (summaryOf own) same)
       from (item i) e =
-          let x : Read = record { entry = a; item = i } in
-          let same : l ++ readOf a ≡ l ++ (x ∷ []) = ap (λ (m : List Read). l ++ m) (read-judged a e) in
+          let x : ReplayEntry = record { entry = a; item = i } in
+          let same : l ++ readOf a ≡ l ++ (x ∷ []) = ap (λ (m : List ReplayEntry). l ++ m) (read-classified a e) in
           (ap index same ∙ index-same l x (held-none e), ap (summaryOf own) same ∙ summary-kept l x (held-none e) own)
 
 -- ---- An entry that holds a block
 
 -- a block that insert decodes is one that recovery reads
-pub record Holds (a : Entry) (r : BlockReference) : Type 0 where
+pub record HoldsBlock (a : Entry) (r : BlockReference) : Type 0 where
   pub item : Item
-  pub is : judge a ≡ Judged.item item
-  pub block : blockOf (record { entry = a; item = item }) ≡ record { reference = r; position = a .start } ∷ []
+  pub is : classify a ≡ Classified.item item
+  pub block : blocksIn (record { entry = a; item = item }) ≡ record { reference = r; position = a .start } ∷ []
   pub holds : blockIn item ≡ some r
   pub digested : Digested r
 
 -- of what a parser found, the item that recovery makes of it
 made-holds : {A : Type 0} (a : Entry) (x : Res A) (n : ℕ) (make : A → Item) (refers : A → BlockReference) → ((v : A) → blockIn (make v) ≡ some (refers v))
-    → ((v : A) (e : ℕ) → x ≡ got v e → Digested (refers v)) → judge a ≡ answer (refuse n) (λ v e. item (make v)) x
-    → {r : BlockReference} → answer (Decoded.bad n) (λ v e. good (refers v)) x ≡ good r → Holds a r
-unfolding answer blockOf
-made-holds a bad n make refers holds digested judged h = let z : _≡_ {A = ℕ} 0 1 = cc in absurd (omega arith)
-made-holds a (got v e) n make refers holds digested judged {r} h =
+    → ((v : A) (e : ℕ) → x ≡ got v e → Digested (refers v)) → classify a ≡ answer (refuse n) (λ v e. item (make v)) x
+    → {r : BlockReference} → answer (Decoded.bad n) (λ v e. good (refers v)) x ≡ good r → HoldsBlock a r
+unfolding answer blocksIn
+made-holds a bad n make refers holds digested classified h = let z : _≡_ {A = ℕ} 0 1 = cc in absurd (omega arith)
+made-holds a (got v e) n make refers holds digested classified {r} h =
     let same : refers v ≡ r = cc in
     record {
       item = make v;
-      is = judged;
-      block = rw (holds v, blockOf) (ap (λ (r : BlockReference). record { reference = r; position = a .start } ∷ []) same);
+      is = classified;
+      block = rw (holds v, blocksIn) (ap (λ (r : BlockReference). record { reference = r; position = a .start } ∷ []) same);
       holds = holds v ∙ ap (λ (r : BlockReference). some r) same;
       digested = subst Digested same (digested v e refl);
     }
 
 module _ (start : ℕ) (payload : List ℕ) (all : AllBytes payload) {r : BlockReference} where
-  holds-block : insert.blockOf 1 payload ≡ good r → Holds (record { start = start; tag = 1; payload = payload }) r
-  unfolding insert.blockOf judge pick blockIn
+  holds-block : insert.decodedReference 1 payload ≡ good r → HoldsBlock (record { start = start; tag = 1; payload = payload }) r
+  unfolding insert.decodedReference classify pick blockIn
   holds-block =
       made-holds (record { start = start; tag = 1; payload = payload }) (block payload 0) 9 (λ (b : BlockValue). isBlock (b .reference)) (λ b. b .reference)
       (λ b. refl) (λ b e is. block-digested payload all 0 is) refl
 
-  holds-own : insert.blockOf 3 payload ≡ good r → Holds (record { start = start; tag = 3; payload = payload }) r
-  unfolding insert.blockOf judge pick blockIn
+  holds-own : insert.decodedReference 3 payload ≡ good r → HoldsBlock (record { start = start; tag = 3; payload = payload }) r
+  unfolding insert.decodedReference classify pick blockIn
   holds-own =
       made-holds (record { start = start; tag = 3; payload = payload }) (ownBlock payload 0) 10
       (λ (o : OwnBlockValue). isOwnBlock (o .nextEntry) (o .block .reference)) (λ o. o .block .reference) (λ o. refl)
       (λ o e is. own-digested payload all 0 is) refl
 
-  pub insert-holds : (tag : ℕ) → (tag ≡ 1) ⊎ (tag ≡ 3) → insert.blockOf tag payload ≡ good r
-      → Holds (record { start = start; tag = tag; payload = payload }) r
+  pub insert-holds : (tag : ℕ) → (tag ≡ 1) ⊎ (tag ≡ 3) → insert.decodedReference tag payload ≡ good r
+      → HoldsBlock (record { start = start; tag = tag; payload = payload }) r
   insert-holds tag which h =
       ⊎-elim
       (λ (one : tag ≡ 1).
-      subst (λ (t : ℕ). Holds (record { start = start; tag = t; payload = payload }) r) (sym one)
-      (holds-block (subst (λ (t : ℕ). insert.blockOf t payload ≡ good r) one h)))
+      subst (λ (t : ℕ). HoldsBlock (record { start = start; tag = t; payload = payload }) r) (sym one)
+      (holds-block (subst (λ (t : ℕ). insert.decodedReference t payload ≡ good r) one h)))
       (λ (three : tag ≡ 3).
-      subst (λ (t : ℕ). Holds (record { start = start; tag = t; payload = payload }) r) (sym three)
-      (holds-own (subst (λ (t : ℕ). insert.blockOf t payload ≡ good r) three h)))
+      subst (λ (t : ℕ). HoldsBlock (record { start = start; tag = t; payload = payload }) r) (sym three)
+      (holds-own (subst (λ (t : ℕ). insert.decodedReference t payload ≡ good r) three h)))
       which
 
 -- the row of a block joins the store's as it joins the index of the log
-module _ (size own : ℕ) (l : List Read) (s : BlockStore) (words : List ℕ) (h : Mirrors size own l s words) (digested : AllDigested (references (index l))) (ok : Checked s words) (a : Entry) {r : BlockReference} (holds : Holds a r) (small : r .authority < s .«committee_size») {n : ℕ} (counted : upsertCount words (s .rows) (loadedRow r (a .start)) ≡ Count n) where
-  pub mirrors-block : Mirrors size own (l ++ (record { entry = a; item = holds .item } ∷ [])) (storeWith s r n) (upserted words (s .rows) (loadedRow r (a .start)))
+module _ (size own : ℕ) (l : List ReplayEntry) (s : BlockStore) (words : List ℕ) (h : AgreesWith size own l s words) (digested : AllDigested (references (index l))) (ok : Checked s words) (a : Entry) {r : BlockReference} (holds : HoldsBlock a r) (small : r .authority < s .«committee_size») {n : ℕ} (counted : upsertCount words (s .rows) (loadedRow r (a .start)) ≡ Count n) where
+  pub agrees-block : AgreesWith size own (l ++ (record { entry = a; item = holds .item } ∷ [])) (storeWith s r n) (upserted words (s .rows) (loadedRow r (a .start)))
   unfolding storeWith indexed indexRows loadedRow
-  mirrors-block =
-      let x : Read = record { entry = a; item = holds .item } in
+  agrees-block =
+      let x : ReplayEntry = record { entry = a; item = holds .item } in
       let b : Block = record { reference = r; position = a .start } in
       record {
         committee = h .committee;
@@ -173,19 +173,19 @@ module _ (size own : ℕ) (l : List Read) (s : BlockStore) (words : List ℕ) (h
 
 -- ---- The store that recovery leaves
 
-module _ (size own : ℕ) (l : List Read) where
+module _ (size own : ℕ) (l : List ReplayEntry) where
   -- of the entries l, in a table that begins with their index
-  pub mirrors-opened : (words : List ℕ) → rowsOf (length (index l)) words ≡ map blockRow (index l)
-      → Mirrors size own l (openedOf size own (replayOf own l)) words
+  pub agrees-opened : (words : List ℕ) → rowsOf (length (index l)) words ≡ map blockRow (index l)
+      → AgreesWith size own l (openedOf size own (replayOf own l)) words
   unfolding openedOf replayOf blocksOf indexed indexRows
-  mirrors-opened words h =
+  agrees-opened words h =
       record { committee = refl; authority = refl; rows = ap (map unloadedRow) h ∙ blocks-unloaded (index l); summary = refl }
 
-  pub mirrors-recovered : (used : ℕ) (p u c i p′ u′ c′ i′ : List ℕ) (r : Recovered) (word : Stop) (e : ℕ)
-      → Answers used own (recovered word e l) r p u c i p′ u′ c′ i′ → Mirrors size own l (openedOf size own (r .replay)) i′
+  pub agrees-recovered : (used : ℕ) (p u c i p′ u′ c′ i′ : List ℕ) (r : Recovered) (word : Stop) (e : ℕ)
+      → Answers used own (recovered word e l) r p u c i p′ u′ c′ i′ → AgreesWith size own l (openedOf size own (r .replay)) i′
   unfolding recoveredOf answerTable indexRows
-  mirrors-recovered used p u c i p′ u′ c′ i′ r word e answers =
+  agrees-recovered used p u c i p′ u′ c′ i′ r word e answers =
       let replay : r .replay ≡ replayOf own l = ap (λ (r : Recovered). r .replay) (answers .answer) in
       let rows : rowsOf (length (index l)) i′ ≡ map blockRow (index l) =
       ap (rowsOf (length (index l))) (answers .index) ∙ table-blocks (length i) (index l) in
-      subst (λ (t : Replay). Mirrors size own l (openedOf size own t) i′) (sym replay) (mirrors-opened i′ rows)
+      subst (λ (t : Replay). AgreesWith size own l (openedOf size own t) i′) (sym replay) (agrees-opened i′ rows)

@@ -5,7 +5,6 @@
 // in a round, and the store's summary. The rows themselves are a table that the caller lends.
 ghost use mathlib.Core.Path.{_≡_};
 ghost use mathlib.Core.Bool.{false};
-ghost use mathlib.Core.Option.{some};
 ghost use Prim.Native.Nat.{_+_, _*_, _≤_, _<_, max as greater};
 ghost use lib.Dec.{ltb, eqb};
 ghost use lib.ListN.{length, getD};
@@ -13,7 +12,7 @@ ghost use Rattle.laws.specs.Pick.{pick};
 ghost use Rattle.laws.specs.Bytes.{bytesAt};
 ghost use Rattle.rows.specs.Rows.{rowsOf, Ascending};
 ghost use Rattle.index.specs.Keys.{ofBe, keyWords, indexRow, existsAt};
-ghost use Rattle.index.specs.Summary.{foundReference, emptySummary, summaryWith};
+ghost use Rattle.index.specs.Summary.{emptySummary, ownRound, ownWith, summaryWith};
 use rows::Place;
 use types::AuthorityIndex;
 use types::BlockReference;
@@ -114,17 +113,27 @@ fn max(a: u64, b: u64) -> u64
     a
 }
 
-// The own block once a block joins whose authority was last seen in the round `seen`.
+// The round that own blocks have reached: 0 where there is none.
+fn own_round(last: FoundReference) -> RoundNumber
+    ensures { λ r. ⌜ r ≡ ownRound last ⌝ }
+{
+    if last.there {
+        return last.reference.round;
+    }
+    0
+}
+
+// The own block once a block joins (BlockStoreInner, add_own_index).
 fn later_own(
     last: FoundReference,
     own: AuthorityIndex,
-    seen: RoundNumber,
     reference: BlockReference,
 ) -> FoundReference
-    ensures { λ r. ⌜ r ≡ pick (eqb (reference .authority) own) (pick (ltb seen (reference .round)) (foundReference (some reference)) last) last ⌝ }
+    ensures { λ r. ⌜ r ≡ ownWith own reference last ⌝ }
 {
+    let reached = own_round(last);
     if reference.authority == own {
-        if seen < reference.round {
+        if reached < reference.round {
             return FoundReference {
                 there: true,
                 reference,
@@ -159,7 +168,7 @@ impl StoreSummary {
         let authority = reference.authority as usize;
         let seen = rounds[authority];
         rounds[authority] = max(seen, round);
-        let last_own_block = later_own(self.last_own_block, own, seen, reference);
+        let last_own_block = later_own(self.last_own_block, own, reference);
         StoreSummary {
             highest_round: max(self.highest_round, round),
             last_seen_by_authority: rounds,

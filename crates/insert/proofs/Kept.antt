@@ -24,7 +24,7 @@ use Rattle.tables.proofs.Tables.{fits-lent}
 use Rattle.rows.proofs.Ascending.{ascendingb-decides}
 use Rattle.index.specs.Keys.{keyWords, indexRow}
 use Rattle.committee.specs.Committee.{committeeCheck}
-use Rattle.state.specs.Holding.{blockNumber}
+use Rattle.state.specs.Checks.{blockNumber}
 use Rattle.state.proofs.BlockEntries.{number-below}
 use Rattle.state.proofs.Rows.{length-indexRow}
 use Rattle.store.specs.declared.BlockStore.{BlockStore}

@@ -19,7 +19,7 @@ use Rattle.wal_writer.specs.Append.{Placed, accepted, refused, startFor, within
 use Rattle.tables.specs.declared.Upserted.{Upserted}
 use Rattle.tables.specs.declared.Upserted.the-variants.{Count, Full}
 use Rattle.tables.specs.Tables.{upsertCount}
-use Rattle.state.specs.Holding.{blockNumber}
+use Rattle.state.specs.Checks.{blockNumber}
 use Rattle.store.specs.declared.BlockStore.{BlockStore}
 use Rattle.rows.specs.Rows.{rowsOf}
 use Rattle.store.specs.Store.{callCheck}

@@ -26,7 +26,7 @@ use Rattle.committee.specs.Committee.{committeeCheck}
 use Rattle.wal.specs.Walk.{Stop, stopped}
 use Rattle.replay_log.proofs.Scanning.{concluded, replayedFrom, replayed-whole}
 use Rattle.replay.proofs.Applied.{present-index}
-use Rattle.state.specs.Holding.{blockNumber}
+use Rattle.state.specs.Checks.{blockNumber}
 use Rattle.state.proofs.BlockEntries.{exists-present}
 use Rattle.state.proofs.Checks.{check-classified, check-block, no-block}
 use Rattle.replay_log.specs.Answers.{indexRows}

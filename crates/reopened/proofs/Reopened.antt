@@ -25,7 +25,8 @@ use Rattle.committee.specs.Committee.{committeeCheck}
 use Rattle.replay.proofs.Applied.{references}
 use Rattle.state.specs.Tables.{blockRow, lentOf, summaryOf, emptyReplay}
 use Rattle.state.specs.declared.Replay.{Replay}
-use Rattle.state.specs.Holding.{AllDigested, blockNumber}
+use Rattle.state.specs.Checks.{blockNumber}
+use Rattle.state.specs.Holding.{AllDigested}
 use Rattle.state.proofs.BlockEntries.{number-below}
 use Rattle.state.proofs.Empty.{replay-empty}
 use Rattle.replay_log.specs.Answers.{Answers, indexRows}

@@ -10,7 +10,7 @@ use Rattle.index.specs.Keys.{keyWords, digestWords}
 use Rattle.index.specs.Summary.{emptySummary}
 use Rattle.state.specs.Tables.{lastSeenFrom, summaryOf, blocksOf, replayOf, emptyReplay}
 use Rattle.recovered.specs.declared.Recovered.{Recovered}
-use Rattle.recovered.specs.Finishing.{refusedAnswer}
+use Rattle.recovered.specs.Answers.{refusedAnswer}
 use Rattle.replay_log.specs.Answers.{recoveredOf}
 use Rattle.node_words.specs.Words.{spanWords, foundWords, headWords, summaryWords, recoveredWords}
 

@@ -124,11 +124,7 @@ fn own_round(last: FoundReference) -> RoundNumber
 }
 
 // The own block once a block joins (BlockStoreInner, add_own_index).
-fn later_own(
-    last: FoundReference,
-    own: AuthorityIndex,
-    reference: BlockReference,
-) -> FoundReference
+fn later_own(last: FoundReference, own: AuthorityIndex, reference: BlockReference) -> FoundReference
     ensures { λ r. ⌜ r ≡ ownWith own reference last ⌝ }
 {
     let reached = own_round(last);

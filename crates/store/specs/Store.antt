@@ -8,8 +8,12 @@ use Rattle.laws.specs.Pick.{pick}
 use Rattle.wal_position.specs.Checks.{logCheck, unless}
 use Rattle.rows.specs.Rows.{rowsOf, ascendingb}
 use Rattle.committee.specs.Committee.{committeeCheck}
+use Rattle.wal.specs.declared.Walked.{Walked}
+use Rattle.wal.specs.Answers.{walkedNumber}
 use Rattle.state.specs.declared.Replay.{Replay}
+use Rattle.recovered.specs.declared.Recovered.{Recovered}
 use Rattle.store.specs.declared.BlockStore.{BlockStore}
+use Rattle.store.specs.declared.Opened.{Opened}
 
 -- the index, as a list of rows
 unfoldable pub indexed : BlockStore → List ℕ → List (List ℕ)
@@ -38,6 +42,10 @@ loaded r = pick (eqb (getD r 7 0) 0) false true
 
 -- ---- The store that recovery leaves
 
+-- "A refusal gives its number": that of the recovery, then 18 for the committee; 0 where there is none
+unfoldable pub openNumber : Walked → ℕ → ℕ → ℕ
+openNumber w size own = unless (walkedNumber w) (λ n. n) (committeeCheck size own)
+
 -- "no load counted yet"; that all are unloaded is for the rows to say (`blockRow`)
 unfoldable pub openedOf : ℕ → ℕ → Replay → BlockStore
 openedOf size own r =
@@ -48,6 +56,10 @@ openedOf size own r =
       loads = 0;
       summary = r .blocks .summary;
     }
+
+-- what opening answers: a number other than 0 opens no store
+unfoldable pub opened : ℕ → ℕ → Recovered → Opened
+opened size own r = record { number = openNumber (r .walked) size own; store = openedOf size own (r .replay) }
 
 -- The last seen round of any authority: 0 from 128 on. A field of the store's value, as the other getters give: no log and no row is read, so that
 -- 1, 2 and 18 do not arise.

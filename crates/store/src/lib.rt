@@ -10,13 +10,14 @@ ghost use lib.Dec.{leb, ltb};
 ghost use lib.ListN.{length, getD};
 ghost use Rattle.laws.specs.Pick.{pick};
 ghost use Rattle.rows.specs.Rows.{rowsOf, ascendingb};
-ghost use Rattle.store.specs.Store.{authoritiesBelow, storeCheck, callCheck, openedOf, lastSeenOf};
+ghost use Rattle.store.specs.Store.{authoritiesBelow, storeCheck, callCheck, openNumber, opened, lastSeenOf};
 use index::FoundReference;
 use index::StoreSummary;
+use recovered::Recovered;
 use rows::Order;
-use state::Replay;
 use types::AuthorityIndex;
 use types::RoundNumber;
+use wal::Walked;
 
 // The committee's size and the own authority, the index rows counted, the blocks read from the log
 // because they were not loaded, and the summary.
@@ -28,20 +29,41 @@ pub struct BlockStore {
     pub summary: StoreSummary,
 }
 
+// The refusal's number, or 0 and the store.
+pub struct Opened {
+    pub number: u8,
+    pub store: BlockStore,
+}
+
+// The recovery's number, then the committee's: 0, or the refusal's number.
+fn open_number(walked: Walked, committee_size: u64, authority: AuthorityIndex) -> u8
+    ensures { λ r. ⌜ r ≡ openNumber walked «committee_size» authority ⌝ }
+{
+    let number = walked.number();
+    if number != 0 {
+        return number;
+    }
+    committee::check_committee(committee_size, authority)
+}
+
 impl BlockStore {
-    // The store that a recovery for this committee and own authority leaves.
-    pub fn open(committee_size: u64, authority: AuthorityIndex, recovered: Replay) -> BlockStore
-        ensures { λ r. ⌜ r ≡ openedOf «committee_size» authority recovered ⌝ }
+    // The store that a recovery for this committee and own authority leaves. A refused recovery opens none.
+    pub fn open(committee_size: u64, authority: AuthorityIndex, recovered: Recovered) -> Opened
+        ensures { λ r. ⌜ r ≡ opened «committee_size» authority recovered ⌝ }
     {
-        let blocks = recovered.blocks;
+        let walked = recovered.walked;
+        let number = open_number(walked, committee_size, authority);
+        let replay = recovered.replay;
+        let blocks = replay.blocks;
         let summary = blocks.summary;
-        BlockStore {
+        let store = BlockStore {
             committee_size,
             authority,
             rows: blocks.index,
             loads: 0,
             summary,
-        }
+        };
+        Opened { number, store }
     }
 
     pub fn len_expensive(self) -> usize

@@ -10,8 +10,7 @@ use Rattle.wal.specs.Walk.{Walk, walk, walkAt}
 use Rattle.wal_position.proofs.Checks.{Sound, sound-passes, unless-passed}
 use Rattle.replay.specs.Recovery.{Lent, Recovery, refused, replayed, recover}
 use Rattle.committee.specs.Committee.{committeeCheck}
-use Rattle.state.specs.Tables.{lentOf}
-use Rattle.replay_log.specs.Answers.{Answers}
+use Rattle.replay_log.specs.Answers.{rowsLent, Answers}
 use Rattle.cut.specs.PlainLog.{Log}
 use Rattle.cut.specs.Cut.{Holds, kept, resumeAt, ReadsBack, ruled, Recovers}
 
@@ -46,6 +45,6 @@ recovers k least most log below c found by holds back =
       walks = back .reads;
       recovers = same;
       calls =
-          λ size own r p u t i p′ u′ t′ i′ answers.
-          subst (λ (x : Recovery). Answers c own x r p u t i p′ u′ t′ i′) (same size own (lentOf p u t i)) answers;
+          λ size own before r after answers.
+          subst (λ (x : Recovery). Answers c own x before r after) (same size own (rowsLent before)) answers;
     }

@@ -1,23 +1,35 @@
 -- How many words recovery answers: 161, whatever the log. Assumes nothing.
-use mathlib.Core.Path.{_≡_, refl, ap}
-use mathlib.Core.List.{List}
-use Prim.Native.Nat.{ℕ, zero, suc}
-use native.Mathlib.Omega.{arith}
-use lib.ListN.{length, length-replicate}
+use mathlib.Core.Path.{_≡_, refl, ap, ap₂, _∙_}
+use mathlib.Core.List.{List, _++_}
+use Prim.Native.Nat.{ℕ, zero, suc, _+_}
+use lib.ListN.{length, length-append, length-replicate}
 use Rattle.replay.specs.Items.{ReplayEntry}
 use Rattle.replay.specs.Recovery.{Recovery, refused, recovered}
-use Rattle.index.specs.Keys.{keyWords, digestWords}
+use Rattle.index.specs.declared.StoreSummary.{StoreSummary}
 use Rattle.index.specs.Summary.{emptySummary}
 use Rattle.state.specs.Tables.{lastSeenFrom, summaryOf, blocksOf, replayOf, emptyReplay}
 use Rattle.recovered.specs.declared.Recovered.{Recovered}
 use Rattle.recovered.specs.Answers.{refusedAnswer}
 use Rattle.replay_log.specs.Answers.{recoveredOf}
 use Rattle.node_words.specs.Words.{spanWords, foundWords, headWords, summaryWords, recoveredWords}
+use Rattle.node_words.proofs.Words.{long-head, long-span, long-found}
 
--- 33 words stand before the last seen rounds
+long-behind : (a b : List ℕ) {n m : ℕ} → length a ≡ n → length b ≡ m → length (a ++ b) ≡ n + m
+long-behind a b e f = length-append a b ∙ ap₂ (λ (n m : ℕ). n + m) e f
+
+pub summary-long : (s : StoreSummary) → length (s .«last_seen_by_authority») ≡ 128 → length (summaryWords s) ≡ 136
+unfolding summaryWords
+summary-long s h = long-behind (foundWords (s .«last_own_block»)) _ (long-found (s .«last_own_block»)) (ap suc h)
+
 words-long : (r : Recovered) → length (r .replay .blocks .summary .«last_seen_by_authority») ≡ 128 → length (recoveredWords r) ≡ 161
-unfolding recoveredWords headWords spanWords foundWords summaryWords keyWords digestWords
-words-long r h = omega arith
+unfolding recoveredWords
+words-long r h =
+    long-behind (headWords r) _ (long-head r)
+    (long-behind (spanWords (r .replay .«last_own_block»)) _ (long-span (r .replay .«last_own_block»))
+    (long-behind (spanWords (r .replay .state)) _ (long-span (r .replay .state))
+    (long-behind (spanWords (r .replay .«committed_state»)) _ (long-span (r .replay .«committed_state»))
+    (long-behind (foundWords (r .replay .«last_committed_leader»)) _ (long-found (r .replay .«last_committed_leader»))
+    (summary-long (r .replay .blocks .summary) h)))))
 
 last-seen-long : (a n : ℕ) (l : List ReplayEntry) → length (lastSeenFrom a n l) ≡ n
 unfolding lastSeenFrom

@@ -6,17 +6,20 @@ use Prim.Native.Nat.{ℕ, _+_, _≤_}
 use mir.Val.{boolByte}
 use native.Mathlib.Nat.{add-assoc}
 use lib.Dec.{lit≤}
-use lib.ListN.{length}
+use lib.ListN.{length, length-append}
 use Rattle.text.specs.Clipped.{clipped}
 use Rattle.text.proofs.Clipped.{then-clipped}
 use Rattle.wal.specs.declared.Stop.{Stop}
 use Rattle.wal.specs.declared.Stop.the-variants.{End, Zeros, Torn}
+use Rattle.wal.specs.declared.Walked.{Walked}
+use Rattle.wal.specs.declared.Walked.the-variants.{Stopped, Refused}
 use Rattle.index.specs.Keys.{keyWords, digestWords}
 use Rattle.index.specs.declared.FoundReference.{FoundReference}
 use Rattle.index.specs.declared.StoreSummary.{StoreSummary}
 use Rattle.state.specs.declared.Span.{Span}
+use Rattle.state.specs.declared.Span.the-variants.{Nothing, At}
 use Rattle.recovered.specs.declared.Recovered.{Recovered}
-use Rattle.node_words.specs.Words.{flag, stopWord, spanWords, foundWords, headWords, summaryWords, recoveredWords}
+use Rattle.node_words.specs.Words.{flag, stopWord, walkedWords, spanWords, foundWords, headWords, summaryWords, recoveredWords}
 
 -- a cast makes 1 of true and 0 of false
 pub flag-is : (t : Bool) → boolByte t ≡ flag t
@@ -37,15 +40,22 @@ behind s p n a b e f g =
     g ∙ ap (λ (l : List ℕ). clipped l (p + n) b) f ∙ then-clipped s p (p + n) a b (ap (λ (m : ℕ). p + m) (sym e))
 
 -- how many words each part has
-long-head : (r : Recovered) → length (headWords r) ≡ 9
+pub long-walked : (w : Walked) → length (walkedWords w) ≡ 5
+unfolding walkedWords
+long-walked (Stopped w e unread) = refl
+long-walked (Refused n p) = refl
+
+pub long-head : (r : Recovered) → length (headWords r) ≡ 9
 unfolding headWords
-long-head r = refl
+long-head r =
+    length-append (walkedWords (r .walked)) _ ∙ ap (λ (n : ℕ). n + 4) (long-walked (r .walked))
 
-long-span : (s : Span) → length (spanWords s) ≡ 3
+pub long-span : (s : Span) → length (spanWords s) ≡ 3
 unfolding spanWords
-long-span s = refl
+long-span Nothing = refl
+long-span (At at n) = refl
 
-long-found : (f : FoundReference) → length (foundWords f) ≡ 7
+pub long-found : (f : FoundReference) → length (foundWords f) ≡ 7
 unfolding foundWords keyWords digestWords
 long-found f = refl
 

@@ -4,34 +4,44 @@ use mathlib.Core.List.{List, [], _∷_, _++_}
 use Prim.Native.Nat.{ℕ}
 use Rattle.wal.specs.declared.Stop.{Stop}
 use Rattle.wal.specs.declared.Stop.the-variants.{End, Zeros, Torn}
+use Rattle.wal.specs.declared.Walked.{Walked}
+use Rattle.wal.specs.declared.Walked.the-variants.{Stopped, Refused}
 use Rattle.index.specs.Keys.{keyWords}
 use Rattle.index.specs.declared.FoundReference.{FoundReference}
 use Rattle.index.specs.declared.StoreSummary.{StoreSummary}
 use Rattle.state.specs.declared.Span.{Span}
+use Rattle.state.specs.declared.Span.the-variants.{Nothing, At}
 use Rattle.recovered.specs.declared.Recovered.{Recovered}
 
 unfoldable pub flag : Bool → ℕ
 flag false = 0
 flag true = 1
 
+-- the stop codes; that of a refusal is 3
 unfoldable pub stopWord : Stop → ℕ
 stopWord End = 0
 stopWord Zeros = 1
 stopWord Torn = 2
 
--- three words
+-- five words: the number, the start of the entry concerned, the stop code, E and the unread count
+unfoldable pub walkedWords : Walked → List ℕ
+walkedWords (Stopped w e unread) = 0 ∷ 0 ∷ stopWord w ∷ e .0 ∷ unread ∷ []
+walkedWords (Refused n p) = n ∷ p .0 ∷ 3 ∷ 0 ∷ 0 ∷ []
+
+-- three words: whether there are bytes, where they begin, and how many they are
 unfoldable pub spanWords : Span → List ℕ
-spanWords s = flag (s .there) ∷ s .at ∷ s .len ∷ []
+spanWords Nothing = 0 ∷ 0 ∷ 0 ∷ []
+spanWords (At at n) = 1 ∷ at ∷ n ∷ []
 
 -- seven words
 unfoldable pub foundWords : FoundReference → List ℕ
 foundWords f = flag (f .there) ∷ keyWords (f .reference)
 
--- the refusal, the walk's stop, and how many rows each table has
+-- the walk's answer, and how many rows each table has
 unfoldable pub headWords : Recovered → List ℕ
 headWords r =
-    r .number ∷ r .start .0 ∷ stopWord (r .stop) ∷ r .end .0 ∷ r .unread
-    ∷ r .replay .pending ∷ r .replay .blocks .unprocessed ∷ r .replay .committed ∷ r .replay .blocks .index ∷ []
+    walkedWords (r .walked)
+    ++ (r .replay .pending ∷ r .replay .blocks .unprocessed ∷ r .replay .committed ∷ r .replay .blocks .index ∷ [])
 
 -- the own block, the highest round, and the last seen round of each authority
 unfoldable pub summaryWords : StoreSummary → List ℕ

@@ -34,7 +34,7 @@ use Rattle.state.proofs.Kept.{summary-kept}
 use Rattle.state.proofs.Rows.{length-indexRow, put-blockRow}
 use Rattle.state.proofs.Summaries.{summary-joined}
 use Rattle.recovered.specs.declared.Recovered.{Recovered}
-use Rattle.replay_log.specs.Answers.{recoveredOf, answerTable, Answers, indexRows}
+use Rattle.replay_log.specs.Answers.{recoveredOf, answerTable, Tables, Answers, indexRows}
 use Rattle.store.specs.declared.BlockStore.{BlockStore}
 use Rattle.store.specs.Store.{indexed, openedOf}
 use Rattle.store.proofs.Checked.{Checked}
@@ -181,11 +181,11 @@ module _ (size own : ℕ) (l : List ReplayEntry) where
   agrees-opened words h =
       record { committee = refl; authority = refl; rows = ap (map unloadedRow) h ∙ blocks-unloaded (index l); summary = refl }
 
-  pub agrees-recovered : (used : ℕ) (p u c i p′ u′ c′ i′ : List ℕ) (r : Recovered) (word : Stop) (e : ℕ)
-      → Answers used own (recovered word e l) r p u c i p′ u′ c′ i′ → AgreesWith size own l (openedOf size own (r .replay)) i′
+  pub agrees-recovered : (used : ℕ) (before after : Tables) (r : Recovered) (word : Stop) (e : ℕ)
+      → Answers used own (recovered word e l) before r after → AgreesWith size own l (openedOf size own (r .replay)) (after .index)
   unfolding recoveredOf answerTable indexRows
-  agrees-recovered used p u c i p′ u′ c′ i′ r word e answers =
+  agrees-recovered used before after r word e answers =
       let replay : r .replay ≡ replayOf own l = ap (λ (r : Recovered). r .replay) (answers .answer) in
-      let rows : rowsOf (length (index l)) i′ ≡ map blockRow (index l) =
-      ap (rowsOf (length (index l))) (answers .index) ∙ table-blocks (length i) (index l) in
-      subst (λ (t : Replay). AgreesWith size own l (openedOf size own t) i′) (sym replay) (agrees-opened i′ rows)
+      let rows : rowsOf (length (index l)) (after .index) ≡ map blockRow (index l) =
+      ap (λ (t : Tables). rowsOf (length (index l)) (t .index)) (answers .words) ∙ table-blocks (length (before .index)) (index l) in
+      subst (λ (t : Replay). AgreesWith size own l (openedOf size own t) (after .index)) (sym replay) (agrees-opened (after .index) rows)

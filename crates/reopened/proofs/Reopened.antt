@@ -23,13 +23,13 @@ use Rattle.replay.specs.Rules.{gather, blocks, setOf, index}
 use Rattle.replay.specs.Recovery.{blockCheck, replayed, Lent, recover, refused, recovered}
 use Rattle.committee.specs.Committee.{committeeCheck}
 use Rattle.replay.proofs.Applied.{references}
-use Rattle.state.specs.Tables.{blockRow, lentOf, summaryOf, emptyReplay}
+use Rattle.state.specs.Tables.{blockRow, summaryOf, emptyReplay}
 use Rattle.state.specs.declared.Replay.{Replay}
 use Rattle.state.specs.Checks.{blockNumber}
 use Rattle.state.specs.Holding.{AllDigested}
 use Rattle.state.proofs.BlockEntries.{number-below}
 use Rattle.state.proofs.Empty.{replay-empty}
-use Rattle.replay_log.specs.Answers.{Answers, indexRows}
+use Rattle.replay_log.specs.Answers.{Tables, rowsLent, Answers, indexRows}
 use Rattle.recovered.specs.declared.Recovered.{Recovered}
 use Rattle.store.specs.declared.BlockStore.{BlockStore}
 use Rattle.store.specs.Store.{indexed, openedOf, callCheck}
@@ -96,9 +96,9 @@ module _ (k : ℕ) (size own : ℕ) where
       }
 
   -- a start, from a log of whatever bytes
-  module _ (image : List ℕ) (all : AllBytes image) (used : ℕ) (p u c i p′ u′ c′ i′ : List ℕ) (r : Recovered) (word : Stop) (e : ℕ) (l : List ReplayEntry)
-      (is : recover k image used size own (lentOf p u c i) ≡ recovered word e l) (answers : Answers used own (recovered word e l) r p u c i p′ u′ c′ i′) where
-    log-passed : (logCheck k used (length image) ≡ 0) × (unless (committeeCheck size own) (λ n. refused n 0) (replayed size own (lentOf p u c i) (walkAt k image used 0 0)) ≡ recovered word e l)
+  module _ (image : List ℕ) (all : AllBytes image) (used : ℕ) (before after : Tables) (r : Recovered) (word : Stop) (e : ℕ) (l : List ReplayEntry)
+      (is : recover k image used size own (rowsLent before) ≡ recovered word e l) (answers : Answers used own (recovered word e l) before r after) where
+    log-passed : (logCheck k used (length image) ≡ 0) × (unless (committeeCheck size own) (λ n. refused n 0) (replayed size own (rowsLent before) (walkAt k image used 0 0)) ≡ recovered word e l)
     unfolding recover
     log-passed = unless-recovered (logCheck k used (length image)) _ is
 
@@ -108,14 +108,14 @@ module _ (k : ℕ) (size own : ℕ) where
     pub open-committee : committeeCheck size own ≡ 0
     open-committee = unless-recovered (committeeCheck size own) _ (log-passed .1) .0
 
-    replays : replayed size own (lentOf p u c i) (walkAt k image used 0 0) ≡ recovered word e l
+    replays : replayed size own (rowsLent before) (walkAt k image used 0 0) ≡ recovered word e l
     replays = unless-recovered (committeeCheck size own) _ (log-passed .1) .1
 
     abbrev listed : List Entry
     listed = walkAt k image used 0 0 .entries
 
-    scanned-so : Replayed size own (lentOf p u c i) (walkAt k image used 0 0) word e l
-    scanned-so = replay-scanned size own (lentOf p u c i) (walkAt k image used 0 0) replays
+    scanned-so : Replayed size own (rowsLent before) (walkAt k image used 0 0) word e l
+    scanned-so = replay-scanned size own (rowsLent before) (walkAt k image used 0 0) replays
 
     resumed : Resumes k image used 0 e listed
     resumed =
@@ -125,7 +125,7 @@ module _ (k : ℕ) (size own : ℕ) where
     pub resumes-by : e ≤ used
     resumes-by = resumed .inside
 
-    pub carries-open : Carries (record { used = e; image = image }) (openedOf size own (r .replay)) i′
+    pub carries-open : Carries (record { used = e; image = image }) (openedOf size own (r .replay)) (after .index)
     unfolding onwards
     carries-open =
         record {
@@ -142,11 +142,11 @@ module _ (k : ℕ) (size own : ℕ) where
               ∙ ap (onwards listed) (walk-end k image e)
               ∙ (λ j. record { entries = append-nil listed j; ending = stopped END e });
           agrees =
-              subst (λ (m : List ReplayEntry). AgreesWith size own m (openedOf size own (r .replay)) i′)
-              (replay-reads size own (lentOf p u c i) (walkAt k image used 0 0) replays)
-              (agrees-recovered size own l used p u c i p′ u′ c′ i′ r word e answers);
+              subst (λ (m : List ReplayEntry). AgreesWith size own m (openedOf size own (r .replay)) (after .index))
+              (replay-reads size own (rowsLent before) (walkAt k image used 0 0) replays)
+              (agrees-recovered size own l used before after r word e answers);
           digested = entries-digested listed (stand-bytes k image used all listed (walk-stands k image used open-sound));
-          fine = scan-fine size own (lentOf p u c i) [] listed (scanned-so .scans);
+          fine = scan-fine size own (rowsLent before) [] listed (scanned-so .scans);
         }
 
   -- the rows and the summary of entries with the same index and summary
@@ -295,8 +295,8 @@ module _ (k : ℕ) (size own : ℕ) where
 
   pub carries : 6 ≤ k → k ≤ 28 → {log : LogImage} {s : BlockStore} {words : List ℕ} → Reachable k size own log s words → Carries log s words
   carries low high (new image words) = carries-new low high image words
-  carries low high (opens image all used p u c i p′ u′ c′ i′ r word e l is answers) =
-      carries-open image all used p u c i p′ u′ c′ i′ r word e l is answers
+  carries low high (opens image all used before after r word e l is answers) =
+      carries-open image all used before after r word e l is answers
   carries low high (appends m a small one three) = carries-append (carries low high m) a small one three
   carries low high (inserts m tag payload which all r image′ words′ ins number) =
       carries-insert (carries low high m) tag payload which all r image′ words′ ins number

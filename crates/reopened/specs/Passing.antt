@@ -13,11 +13,12 @@ use Rattle.replay.specs.Items.{ReplayEntry}
 use Rattle.committee.specs.Committee.{committeeCheck}
 use Rattle.replay.specs.Recovery.{recover, recovered}
 use Rattle.wal.specs.Walk.{Stop}
-use Rattle.state.specs.Tables.{lentOf}
 use Rattle.recovered.specs.declared.Recovered.{Recovered}
-use Rattle.replay_log.specs.Answers.{Answers}
+use Rattle.recovered.specs.declared.Resumed.the-variants.{Writer}
+use Rattle.recovered.specs.Answers.{resumedOf}
+use Rattle.replay_log.specs.Answers.{Tables, rowsLent, Answers}
 use Rattle.store.specs.declared.BlockStore.{BlockStore}
-use Rattle.store.specs.Store.{indexed, openedOf, callCheck}
+use Rattle.store.specs.Store.{indexed, openedOf, opened, callCheck}
 use Rattle.block_reader.specs.Reading.{got, blockAt}
 use Rattle.cut.specs.Cut.{LogImage}
 use Rattle.reopened.specs.Reopened.{Reachable}
@@ -26,14 +27,17 @@ use Rattle.reopened.specs.Reopened.{Reachable}
 -- from where the node goes on.
 pub record Passes (k used size own : ℕ) (image index : List ℕ) (r : Recovered) (e : ℕ) : Type 0 where
   pub resumes : e ≤ used
+  -- `BlockStore::open` opens it, and `Recovered::writer` gives the writer at E
+  pub opens : opened size own r ≡ record { number = 0; store = openedOf size own (r .replay) }
+  pub writes : resumedOf k r ≡ Writer (record { exponent = k; used = e })
   pub as-lent : callCheck k used (length image) (openedOf size own (r .replay)) index ≡ 0
   pub from-end : callCheck k e (length image) (openedOf size own (r .replay)) index ≡ 0
 
 abbrev pub Opened : Type 0
 Opened =
-    (k : ℕ) (image : List ℕ) → AllBytes image → (used size own : ℕ) (p u c i p′ u′ c′ i′ : List ℕ) (r : Recovered) (word : Stop) (e : ℕ) (l : List ReplayEntry)
-    → recover k image used size own (lentOf p u c i) ≡ recovered word e l → Answers used own (recovered word e l) r p u c i p′ u′ c′ i′
-    → Passes k used size own image i′ r e
+    (k : ℕ) (image : List ℕ) → AllBytes image → (used size own : ℕ) (before after : Tables) (r : Recovered) (word : Stop) (e : ℕ) (l : List ReplayEntry)
+    → recover k image used size own (rowsLent before) ≡ recovered word e l → Answers used own (recovered word e l) before r after
+    → Passes k used size own image (after .index) r e
 
 -- Any store of `Reachable`, for a committee that passes.
 abbrev pub Kept : Type 0

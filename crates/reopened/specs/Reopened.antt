@@ -15,9 +15,9 @@ use Rattle.replay.specs.Recovery.{Lent, rowsCheck, recover, refused, recovered}
 use Rattle.committee.specs.Committee.{committeeCheck}
 use Rattle.wal_reader.specs.Entries.{Entry}
 use Rattle.wal.specs.Walk.{Stop, walk}
-use Rattle.state.specs.Tables.{lentOf, emptyReplay, summaryOf}
+use Rattle.state.specs.Tables.{emptyReplay, summaryOf}
 use Rattle.recovered.specs.declared.Recovered.{Recovered}
-use Rattle.replay_log.specs.Answers.{Answers, indexRows}
+use Rattle.replay_log.specs.Answers.{Tables, rowsLent, Answers, indexRows}
 use Rattle.store.specs.declared.BlockStore.{BlockStore}
 use Rattle.store.specs.Store.{indexed, openedOf}
 use Rattle.cleanup.specs.Cleanup.{cleanupIndex}
@@ -33,11 +33,10 @@ pub data Reachable (k size own : ℕ) : LogImage → BlockStore → List ℕ →
   -- an empty log in an image of whatever bytes, and no block yet, in index rows of whatever words
   new : (image index : List ℕ) → Reachable k size own (record { used = 0; image = image }) (openedOf size own emptyReplay) index
   -- The node starts from a log of whatever bytes: as it was left, cut by a power failure, with zeros behind it, or written by another program.
-  -- It has what recovery gives of `used` bytes, and goes on from E. p, u, c and i are the tables lent to recovery, p′, u′, c′ and i′ what they
-  -- hold after it.
-  opens : (image : List ℕ) → AllBytes image → (used : ℕ) (p u c i p′ u′ c′ i′ : List ℕ) (r : Recovered) (word : Stop) (e : ℕ) (l : List ReplayEntry)
-      → recover k image used size own (lentOf p u c i) ≡ recovered word e l → Answers used own (recovered word e l) r p u c i p′ u′ c′ i′
-      → Reachable k size own (record { used = e; image = image }) (openedOf size own (r .replay)) i′
+  -- It has what recovery gives of `used` bytes, and goes on from E. The tables are those lent to recovery, before and after it.
+  opens : (image : List ℕ) → AllBytes image → (used : ℕ) (before after : Tables) (r : Recovered) (word : Stop) (e : ℕ) (l : List ReplayEntry)
+      → recover k image used size own (rowsLent before) ≡ recovered word e l → Answers used own (recovered word e l) before r after
+      → Reachable k size own (record { used = e; image = image }) (openedOf size own (r .replay)) (after .index)
   -- An append, accepted or not, of something else than a block: "every 32-bit tag" but the two that insert logs, since a block that is only
   -- appended is in no index before the next start.
   appends : {log : LogImage} {s : BlockStore} {index : List ℕ} → Reachable k size own log s index

@@ -1,12 +1,10 @@
--- `node_words::put_span` meets its contract: word by word. Assumes nothing.
+-- `node_words::put_span` meets its contract: the words are put where they go. Assumes nothing.
 use borrow.Author.Needs.{needs}
-use Rattle.node_words.specs.Words.{spanWords}
-use Rattle.node_words.proofs.Words.{flag-is}
 use Rattle.node_words.proofs.put_span.Statement.{statement}
 use Rattle.node_words.proofs.put_span.Tie as tie
 
-cast-t5 : tie.Need-cast-t5
-cast-t5 c = search needs
+span-words-requires : tie.Need-span-words-requires
+span-words-requires c κs = search needs
 
 slice-aggregate-put-words : tie.Need-slice-aggregate-put-words
 slice-aggregate-put-words c = search needs
@@ -18,11 +16,9 @@ same-length : tie.Need-same-length
 same-length c = search needs
 
 returns : tie.Need-returns
-unfolding spanWords
-returns c =
-    let a = c .before .before .before .before .before .before .before .args in
-    rw (← flag-is (a .s .there)) (c .before .before .put-words .ensures)
+returns c = rw (← c .before .before .before .before .before .span-words .ensures) (c .before .before .put-words .ensures)
 
 pub put-span-spec : {M : Type 1} → statement M
 put-span-spec =
-    tie.close (tie.spec cast-t5 slice-aggregate-put-words put-words-requires same-length returns)
+    tie.close
+    (tie.spec span-words-requires slice-aggregate-put-words put-words-requires same-length returns)

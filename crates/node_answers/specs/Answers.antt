@@ -2,7 +2,6 @@
 use mathlib.Core.Path.{_≡_}
 use mathlib.Core.List.{List, [], _∷_}
 use Prim.Native.Nat.{ℕ}
-use Rattle.text.specs.Clipped.{clipped}
 use Rattle.store.specs.declared.BlockStore.{BlockStore}
 use Rattle.exists.specs.declared.Answer.{Answer}
 use Rattle.exists.specs.declared.Answer.the-variants.{Yes, No, Refused as Answer·Refused}
@@ -10,18 +9,18 @@ use Rattle.cleanup.specs.declared.Cleaned.{Cleaned}
 use Rattle.cleanup.specs.declared.Cleaned.the-variants.{Unloaded, Refused as Cleaned·Refused}
 use Rattle.indexing.specs.declared.Inserted.{Inserted}
 use Rattle.query.specs.declared.Looked.{Looked}
-use Rattle.transaction.specs.declared.Transaction.{Transaction}
+use Rattle.transaction.specs.declared.FoundTransaction.{FoundTransaction}
 use Rattle.linked.specs.declared.LinkedAnswer.{LinkedAnswer}
 use Rattle.node_store.specs.Stores.{storeAfter}
-use Rattle.node_words.specs.Words.{flag}
+use Rattle.node_words.specs.Words.{flag, spanWords}
 use Rattle.node_log.specs.Answers.{Gives}
 
--- A call answers the number n, which is x, puts as many of the words v as fit into a, which is a′ then, and leaves the store s: its words are w,
+-- A call answers the number n, which is x, leaves the words a in its caller's array, which are v, and leaves the store s: its words are w,
 -- and w′ then, which a refusal does not change.
-pub record GivesStore (x : ℕ) (s : BlockStore) (v : List ℕ) (n : ℕ) (w a w′ a′ : List ℕ) : Type 0 where
+pub record GivesStore (x : ℕ) (s : BlockStore) (v : List ℕ) (n : ℕ) (w w′ a : List ℕ) : Type 0 where
   pub number : n ≡ x
   pub store : w′ ≡ storeAfter x w s
-  pub words : a′ ≡ clipped a 0 v
+  pub words : a ≡ v
 
 -- of a question
 unfoldable pub toldNumber : Answer → ℕ
@@ -35,8 +34,8 @@ toldWords Yes = 0 ∷ 1 ∷ []
 toldWords No = 0 ∷ 0 ∷ []
 toldWords (Answer·Refused n) = n ∷ 0 ∷ []
 
-abbrev pub Tells : Answer → ℕ → List ℕ → List ℕ → Type 0
-Tells x n a a′ = Gives (toldNumber x) (toldWords x) n a a′
+abbrev pub Tells : Answer → ℕ → List ℕ → Type 0
+Tells x n a = Gives (toldNumber x) (toldWords x) n a
 
 -- of a cleanup
 unfoldable pub cleanedNumber : Cleaned → ℕ
@@ -48,33 +47,33 @@ unfoldable pub cleanedWords : Cleaned → List ℕ
 cleanedWords (Unloaded n) = 0 ∷ n ∷ []
 cleanedWords (Cleaned·Refused n) = n ∷ 0 ∷ []
 
-abbrev pub Cleans : Cleaned → ℕ → List ℕ → List ℕ → Type 0
-Cleans x n a a′ = Gives (cleanedNumber x) (cleanedWords x) n a a′
+abbrev pub Cleans : Cleaned → ℕ → List ℕ → Type 0
+Cleans x n a = Gives (cleanedNumber x) (cleanedWords x) n a
 
 -- of an insert: the number, the entry's position, and used after the call
 unfoldable pub insertedWords : Inserted → List ℕ
 insertedWords r = r .number ∷ r .position .0 ∷ r .writer .used ∷ []
 
-abbrev pub Logs : Inserted → ℕ → List ℕ → List ℕ → List ℕ → List ℕ → Type 0
-Logs r n w a w′ a′ = GivesStore (r .number) (r .store) (insertedWords r) n w a w′ a′
+abbrev pub Logs : Inserted → ℕ → List ℕ → List ℕ → List ℕ → Type 0
+Logs r n w w′ a = GivesStore (r .number) (r .store) (insertedWords r) n w w′ a
 
 -- of a lookup: the number, and how many rows were found
 unfoldable pub lookedWords : Looked → List ℕ
 lookedWords r = r .number ∷ r .rows ∷ []
 
-abbrev pub Looks : Looked → ℕ → List ℕ → List ℕ → List ℕ → List ℕ → Type 0
-Looks r n w a w′ a′ = GivesStore (r .number) (r .store) (lookedWords r) n w a w′ a′
+abbrev pub Looks : Looked → ℕ → List ℕ → List ℕ → List ℕ → Type 0
+Looks r n w w′ a = GivesStore (r .number) (r .store) (lookedWords r) n w w′ a
 
 -- of a transaction's lookup: the number, whether there is one, and the place and the number of its bytes
-unfoldable pub transactionWords : Transaction → List ℕ
-transactionWords r = r .number ∷ flag (r .share .there) ∷ r .share .at ∷ r .share .len ∷ []
+unfoldable pub transactionWords : FoundTransaction → List ℕ
+transactionWords r = r .number ∷ spanWords (r .share)
 
-abbrev pub Shows : Transaction → ℕ → List ℕ → List ℕ → List ℕ → List ℕ → Type 0
-Shows r n w a w′ a′ = GivesStore (r .number) (r .store) (transactionWords r) n w a w′ a′
+abbrev pub Shows : FoundTransaction → ℕ → List ℕ → List ℕ → List ℕ → Type 0
+Shows r n w w′ a = GivesStore (r .number) (r .store) (transactionWords r) n w w′ a
 
 -- of the question for an ancestor: the number, and 1 for yes
 unfoldable pub linkedWords : LinkedAnswer → List ℕ
 linkedWords r = r .number ∷ flag (r .linked) ∷ []
 
-abbrev pub Links : LinkedAnswer → ℕ → List ℕ → List ℕ → List ℕ → List ℕ → Type 0
-Links r n w a w′ a′ = GivesStore (r .number) (r .store) (linkedWords r) n w a w′ a′
+abbrev pub Links : LinkedAnswer → ℕ → List ℕ → List ℕ → List ℕ → Type 0
+Links r n w w′ a = GivesStore (r .number) (r .store) (linkedWords r) n w w′ a

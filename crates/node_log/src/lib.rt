@@ -1,15 +1,13 @@
 // What each call of the crate node on a log answers, and each that decodes a record, put into the words that its
 // caller lends: the answer of a call of another crate, as words and as a number.
 ghost use mathlib.Core.Path.{_≡_};
-ghost use Rattle.node_log.specs.Answers.{appendNumber, appendWords, walkNumber, walkWords, Reads, Steps, DecodesBlock, DecodesReference};
+ghost use Rattle.node_log.specs.Answers.{appendNumber, appendWords, Reads, Steps, DecodesBlock, DecodesReference};
 use blocks::DecodedBlock;
-use node_words::put_words;
 use node_words::stop_word;
 use types::DecodedReference;
 use wal::Appended;
 use wal::Found;
 use wal::WalkStep;
-use wal::Walked;
 
 pub fn append_number(found: Appended) -> u8
     ensures { λ r. ⌜ r ≡ appendNumber found ⌝ }
@@ -29,78 +27,62 @@ pub fn append_words(used: u64, found: Appended) -> [u64; 3]
     }
 }
 
-pub fn walk_number(found: Walked) -> u8
-    ensures { λ r. ⌜ r ≡ walkNumber found ⌝ }
-{
-    match found {
-        Walked::Stopped(_, _, _) => 0,
-        Walked::Refused(number, _) => number,
-    }
-}
-
-pub fn walk_words(found: Walked) -> [u64; 5]
-    ensures { λ r. ⌜ r ≡ walkWords found ⌝ }
-{
-    match found {
-        Walked::Stopped(stop, e, unread) => {
-            let word = stop_word(stop);
-            [0, 0, word, e.0, unread]
-        }
-        Walked::Refused(number, start) => [number as u64, start.0, 0, 0, 0],
-    }
-}
-
 // Of a read.
-pub fn put_found(answer: &mut [u64], found: Found) -> u8
-    ensures { λ r. ⌜ Reads found r (now (answer .entry)) (now (answer .exit)) ⌝ }
+pub fn put_found(answer: &mut [u64; 5], found: Found) -> u8
+    ensures { λ r. ⌜ Reads found r (now (answer .exit)) ⌝ }
 {
     match found {
         Found::Entry(e) => {
             let words = [0, e.position.0, e.tag as u64, e.len, e.checksum as u64];
-            put_words(answer, 0, &words);
+            *answer = words;
             0
         }
         Found::Refused(number) => {
             let words = [number as u64, 0, 0, 0, 0];
-            put_words(answer, 0, &words);
+            *answer = words;
             number
         }
     }
 }
 
 // Of a walk's step.
-pub fn put_step(answer: &mut [u64], step: WalkStep) -> u8
-    ensures { λ r. ⌜ Steps step r (now (answer .entry)) (now (answer .exit)) ⌝ }
+pub fn put_step(answer: &mut [u64; 6], step: WalkStep) -> u8
+    ensures { λ r. ⌜ Steps step r (now (answer .exit)) ⌝ }
 {
     match step {
         WalkStep::Entry(e) => {
             let words = [0, 0, e.position.0, e.tag as u64, e.len, e.checksum as u64];
-            put_words(answer, 0, &words);
+            *answer = words;
             0
         }
         WalkStep::Stopped(stop) => {
             let word = stop_word(stop);
             let words = [0, word + 1, 0, 0, 0, 0];
-            put_words(answer, 0, &words);
+            *answer = words;
             0
         }
         WalkStep::Refused(number, start) => {
-            let words = [number as u64, 0, start.0, 0, 0, 0];
-            put_words(answer, 0, &words);
+            let words = [number as u64, 4, start.0, 0, 0, 0];
+            *answer = words;
             number
         }
     }
 }
 
 // Of a decoded block.
-pub fn put_block(answer: &mut [u64], d: DecodedBlock) -> u8
-    ensures { λ r. ⌜ DecodesBlock d r (now (answer .entry)) (now (answer .exit)) ⌝ }
+pub fn put_block(answer: &mut [u64; 15], d: DecodedBlock) -> u8
+    ensures { λ r. ⌜ DecodesBlock d r (now (answer .exit)) ⌝ }
 {
     let b = d.block;
     let k = index::key_of(b.reference);
-    let head = [d.ok as u64, k[0], k[1], k[2], k[3], k[4], k[5]];
-    put_words(answer, 0, &head);
     let words = [
+        d.ok as u64,
+        k[0],
+        k[1],
+        k[2],
+        k[3],
+        k[4],
+        k[5],
         b.includes.at as u64,
         b.includes.left as u64,
         b.statements.at as u64,
@@ -110,13 +92,13 @@ pub fn put_block(answer: &mut [u64], d: DecodedBlock) -> u8
         b.epoch_marker as u64,
         d.end as u64,
     ];
-    put_words(answer, 7, &words);
+    *answer = words;
     0
 }
 
 // Of a decoded reference.
-pub fn put_decoded(answer: &mut [u64], d: DecodedReference) -> u8
-    ensures { λ r. ⌜ DecodesReference d r (now (answer .entry)) (now (answer .exit)) ⌝ }
+pub fn put_decoded(answer: &mut [u64; 8], d: DecodedReference) -> u8
+    ensures { λ r. ⌜ DecodesReference d r (now (answer .exit)) ⌝ }
 {
     let k = index::key_of(d.reference);
     let words = [
@@ -129,6 +111,6 @@ pub fn put_decoded(answer: &mut [u64], d: DecodedReference) -> u8
         k[5],
         d.end as u64,
     ];
-    put_words(answer, 0, &words);
+    *answer = words;
     0
 }

@@ -1,32 +1,36 @@
 -- What is put as words is read from them. Assumes nothing.
 use mathlib.Core.Path.{_≡_, refl, sym, ap, _∙_}
 use mathlib.Core.Bool.{Bool, true, false}
-use mathlib.Core.List.{List, [], _∷_, _++_, append-nil}
+use mathlib.Core.List.{List, [], _∷_, _++_, append-nil, append-assoc}
 use Prim.Native.Nat.{ℕ, zero, suc, _+_, _*_, _/_, _%_, _^_, _≤_, _<_}
-use native.Mathlib.Nat.{add-zero, pow-suc, mul-assoc, mul-comm, one-le-pow, pow-succ', mod-one, mul-add-div-right, div-eq-of-lt, mod-eq-of-lt}
+use native.Mathlib.Nat.{zero-add, suc-add, add-zero, pow-suc, mul-assoc, mul-comm, one-le-pow, pow-succ', mod-one, mul-add-div-right, div-eq-of-lt, mod-eq-of-lt}
 use native.Mathlib.Omega.{arith}
 use lib.Arith.{mod-mul}
 use lib.Dec.{lit<}
+use borrow.Author.Tests.{le-leb}
 use lib.ListN.{length, getD, take, drop}
 use lib.Seq.{take-length}
+use Rattle.laws.specs.Pick.{pick}
 use Rattle.laws.specs.Bytes.{bytesAt, AllBytes}
 use Rattle.laws.proofs.Written.{length-bytesAt, bytesAt-add}
-use Rattle.text.specs.Clipped.{clipped}
-use Rattle.text.proofs.Clipped.{clipped-fits}
 use Rattle.types.specs.declared.BlockReference.{BlockReference}
 use Rattle.index.specs.Keys.{ofBe, Digested, digestWords, keyWords}
 use Rattle.laws.proofs.AllBytes.{bytes-part}
 use Rattle.index.proofs.BigEndian.{ofBe-lt}
 use Rattle.index.specs.declared.StoreSummary.{StoreSummary}
+use Rattle.wal.specs.declared.Walked.{Walked}
+use Rattle.wal.specs.declared.Walked.the-variants.{Stopped, Refused}
+use Rattle.wal.specs.Answers.{walkedNumber}
 use Rattle.replay.specs.Recovery.{Recovery}
 use Rattle.replay_log.specs.Answers.{recoveredOf}
 use Rattle.recovered.specs.declared.Recovered.{Recovered}
-use Rattle.store.specs.Store.{openedOf}
+use Rattle.store.specs.Store.{openNumber, openedOf}
 use Rattle.store.specs.declared.BlockStore.{BlockStore}
-use Rattle.node_words.specs.Words.{flag, spanWords, foundWords, headWords, summaryWords, recoveredWords}
-use Rattle.node_store.specs.Stores.{storeWords, wordsAt, be, flagged, digestAt, referenceAt, referenceOf, summaryIn, storeOf, openedWords}
+use Rattle.node_words.specs.Words.{flag, walkedWords, spanWords, foundWords, headWords, summaryWords, recoveredWords}
+use Rattle.node_store.specs.Stores.{storeWords, wordsAt, be, flagged, digestAt, referenceAt, referenceOf, summaryIn, storeOf, openedWords, openedNumber}
 use Rattle.node_store.proofs.Stores.{length-be}
-use Rattle.node_words.proofs.Long.{rounds-long, recovered-long}
+use Rattle.node_words.proofs.Words.{long-walked, long-head, long-span, long-found}
+use Rattle.node_words.proofs.Long.{summary-long, rounds-long}
 
 -- ---- Bytes of a word
 
@@ -118,10 +122,6 @@ wordsAt-between [] (x ∷ l) rest =
 wordsAt-between (x ∷ p) l rest = wordsAt-behind x (p ++ (l ++ rest)) (length p) (length l) ∙ wordsAt-between p l rest
 
 module _ (s : BlockStore) (rounds : length (s .summary .«last_seen_by_authority») ≡ 128) where
-  pub long-store : length (storeWords s) ≡ 140
-  unfolding storeWords summaryWords foundWords keyWords digestWords
-  long-store = omega (arith, rounds)
-
   module _ (own : Digested (s .summary .«last_own_block» .reference)) where
     -- the store that a store's words stand for, whatever stands behind them
     pub store-behind : (rest : List ℕ) → storeOf (storeWords s ++ rest) ≡ s
@@ -157,32 +157,64 @@ module _ (s : BlockStore) (rounds : length (s .summary .«last_seen_by_authority
     pub store-back : storeOf (storeWords s) ≡ s
     store-back = ap storeOf (sym (append-nil (storeWords s))) ∙ store-behind []
 
-    -- a caller whose words have room for a store keeps it from one call to the next
-    pub words-kept : (w : List ℕ) → 140 ≤ length w → storeOf (clipped w 0 (storeWords s)) ≡ s
-    words-kept w h =
-        ap storeOf (clipped-fits w 0 (storeWords s) (omega (arith, long-store))) ∙ store-behind (drop (0 + length (storeWords s)) w)
+-- the words behind others
+wordsAt-skip : (p w : List ℕ) {m : ℕ} (q n : ℕ) → length p ≡ m → wordsAt (p ++ w) (m + q) n ≡ wordsAt w q n
+wordsAt-skip p w q n e = ap (λ (k : ℕ). wordsAt (p ++ w) (k + q) n) (sym e) ∙ by p
+  where
+    by : (p : List ℕ) → wordsAt (p ++ w) (length p + q) n ≡ wordsAt w q n
+    by [] = ap (λ (k : ℕ). wordsAt w k n) (zero-add q)
+    by (x ∷ p) =
+        ap (λ (k : ℕ). wordsAt (x ∷ (p ++ w)) k n) (suc-add (length p) q) ∙ wordsAt-behind x (p ++ w) (length p + q) n ∙ by p
 
-long-summary : (s : StoreSummary) → length (s .«last_seen_by_authority») ≡ 128 → length (summaryWords s) ≡ 136
-unfolding summaryWords foundWords keyWords digestWords
-long-summary s h = omega (arith, h)
+wordsAt-all : (l : List ℕ) → wordsAt l 0 (length l) ≡ l
+wordsAt-all l = ap (λ (w : List ℕ). wordsAt w 0 (length l)) (sym (append-nil l)) ∙ wordsAt-between [] l []
 
--- The words of a store that is opened from recovery's answer are those of the store that `openedOf` gives, whatever stands behind the
--- answer.
-pub opened-store : (size own : ℕ) (r : Recovered) (rest : List ℕ) → length (r .replay .blocks .summary .«last_seen_by_authority») ≡ 128
-    → openedWords size own (recoveredWords r ++ rest) ≡ storeWords (openedOf size own (r .replay))
-unfolding openedWords openedOf storeWords recoveredWords headWords spanWords foundWords keyWords digestWords
-opened-store size own r rest rounds =
-    let s = r .replay .blocks .summary in
-    let w = recoveredWords r ++ rest in
-    let all : wordsAt w 25 136 ≡ summaryWords s =
-    ap (λ (n : ℕ). wordsAt w 25 n) (sym (long-summary s rounds)) ∙ wordsAt-between (take 25 (recoveredWords r)) (summaryWords s) rest in
-    ap (λ (l : List ℕ). size ∷ own ∷ r .replay .blocks .index ∷ 0 ∷ l) all
+first-word : {x y : ℕ} → _≡_ {A = List ℕ} (x ∷ []) (y ∷ []) → x ≡ y
+first-word e = ap (λ (l : List ℕ). getD l 0 0) e
 
--- `kadzhomir_open` after `kadzhomir_recover`, with words a that have room for recovery's answer
-pub opened-recovered : (size used own : ℕ) (x : Recovery) (a : List ℕ) → 161 ≤ length a
-    → openedWords size own (clipped a 0 (recoveredWords (recoveredOf used own x)))
-    ≡ storeWords (openedOf size own (recoveredOf used own x .replay))
-opened-recovered size used own x a h =
-    let r = recoveredOf used own x in
-    ap (openedWords size own) (clipped-fits a 0 (recoveredWords r) (omega (arith, recovered-long used own x)))
-    ∙ opened-store size own r (drop (0 + length (recoveredWords r)) a) (rounds-long used own x)
+-- the number, the index rows counted and the summary, among the words of recovery's answer
+module _ (r : Recovered) where
+  number-there : getD (recoveredWords r) 0 0 ≡ walkedNumber (r .walked)
+  unfolding recoveredWords headWords walkedWords walkedNumber
+  number-there = by (r .walked) _ _
+    where
+      by : (w : Walked) (counts rest : List ℕ) → getD ((walkedWords w ++ counts) ++ rest) 0 0 ≡ walkedNumber w
+      by (Stopped v e unread) counts rest = refl
+      by (Refused n p) counts rest = refl
+
+  index-there : getD (recoveredWords r) 8 0 ≡ r .replay .blocks .index
+  unfolding recoveredWords headWords wordsAt
+  index-there =
+      ap (λ (l : List ℕ). getD l 8 0) (append-assoc (walkedWords (r .walked)) _ _)
+      ∙ first-word (wordsAt-skip (walkedWords (r .walked)) _ 3 1 (long-walked (r .walked)))
+
+  summary-there : length (r .replay .blocks .summary .«last_seen_by_authority») ≡ 128
+      → wordsAt (recoveredWords r) 25 136 ≡ summaryWords (r .replay .blocks .summary)
+  unfolding recoveredWords
+  summary-there rounds =
+      let t = r .replay in
+      let long = summary-long (t .blocks .summary) rounds in
+      wordsAt-skip (headWords r) _ 16 136 (long-head r)
+      ∙ wordsAt-skip (spanWords (t .«last_own_block»)) _ 13 136 (long-span (t .«last_own_block»))
+      ∙ wordsAt-skip (spanWords (t .state)) _ 10 136 (long-span (t .state))
+      ∙ wordsAt-skip (spanWords (t .«committed_state»)) _ 7 136 (long-span (t .«committed_state»))
+      ∙ wordsAt-skip (foundWords (t .«last_committed_leader»)) _ 0 136 (long-found (t .«last_committed_leader»))
+      ∙ ap (wordsAt (summaryWords (t .blocks .summary)) 0) (sym long)
+      ∙ wordsAt-all (summaryWords (t .blocks .summary))
+
+-- The words of a store that is opened from recovery's answer are those of the store that `openedOf` gives.
+pub opened-store : (size own : ℕ) (r : Recovered) → length (r .replay .blocks .summary .«last_seen_by_authority») ≡ 128
+    → openedWords size own (recoveredWords r) ≡ storeWords (openedOf size own (r .replay))
+unfolding openedWords openedOf storeWords
+opened-store size own r rounds = λ i. size ∷ own ∷ index-there r i ∷ 0 ∷ summary-there r rounds i
+
+-- the number of `kadzhomir_open` after `kadzhomir_recover` is that of `BlockStore::open`
+pub opened-number : (size own : ℕ) (r : Recovered) → walkedNumber (r .walked) ≤ 19
+    → openedNumber size own (recoveredWords r) ≡ openNumber (r .walked) size own
+unfolding openedNumber openNumber pick
+opened-number size own r h = rw (number-there r, le-leb (walkedNumber (r .walked)) 19 h)
+
+-- `kadzhomir_open` after `kadzhomir_recover`
+pub opened-recovered : (size used own : ℕ) (x : Recovery)
+    → openedWords size own (recoveredWords (recoveredOf used own x)) ≡ storeWords (openedOf size own (recoveredOf used own x .replay))
+opened-recovered size used own x = opened-store size own (recoveredOf used own x) (rounds-long used own x)

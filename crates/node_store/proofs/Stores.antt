@@ -13,6 +13,7 @@ use Rattle.store.specs.declared.BlockStore.{BlockStore}
 use Rattle.node_words.specs.Words.{summaryWords}
 use Rattle.node_store.specs.Stores.{storeWords, wordsAt, be, digestAt, openedWords}
 use Rattle.node_words.proofs.Words.{behind}
+use Rattle.node_words.proofs.Long.{summary-long}
 
 -- ---- Words
 
@@ -98,6 +99,15 @@ pub store-put : (s : BlockStore) (o : List ℕ) {o1 o2 : List ℕ}
     → o2 ≡ clipped o 0 (storeWords s)
 unfolding storeWords
 store-put s o e f = behind o 0 4 (s .«committee_size» ∷ s .authority ∷ s .rows ∷ s .loads ∷ []) (summaryWords (s .summary)) refl e f
+
+-- 140 words
+pub store-long : (s : BlockStore) → length (s .summary .«last_seen_by_authority») ≡ 128 → length (storeWords s) ≡ 140
+unfolding storeWords
+store-long s rounds = ap (λ (n : ℕ). suc (suc (suc (suc n)))) (summary-long (s .summary) rounds)
+
+pub opened-long : (size own : ℕ) (v : List ℕ) → length (openedWords size own v) ≡ 140
+unfolding openedWords
+opened-long size own v = ap (λ (n : ℕ). suc (suc (suc (suc n)))) (length-wordsAt v 25 136)
 
 -- the words of an opened store, put in two parts
 pub opened-put : (size own : ℕ) (v o : List ℕ) {o1 o2 : List ℕ}

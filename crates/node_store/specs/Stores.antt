@@ -1,12 +1,12 @@
--- The words of a store, which a caller keeps between calls, and the store and the reference that words stand for. A missing word
--- counts as 0.
+-- The words of a store, which a caller keeps between calls, and the store and the reference that words stand for.
 use mathlib.Core.Bool.{Bool, not}
 use mathlib.Core.List.{List, [], _∷_, _++_}
 use Prim.Native.Nat.{ℕ, zero, suc, _+_, _/_, _%_, _^_}
-use lib.Dec.{eqb}
+use lib.Dec.{leb, eqb}
 use lib.ListN.{getD}
-use Rattle.text.specs.Clipped.{clipped}
+use Rattle.laws.specs.Pick.{pick}
 use Rattle.wal_position.specs.Checks.{unless}
+use Rattle.committee.specs.Committee.{committeeCheck}
 use Rattle.types.specs.declared.BlockReference.{BlockReference}
 use Rattle.index.specs.declared.StoreSummary.{StoreSummary}
 use Rattle.store.specs.declared.BlockStore.{BlockStore}
@@ -66,8 +66,18 @@ storeOf w =
 
 -- after a call that answers the number n and leaves the store s: a refused one changes no word
 unfoldable pub storeAfter : ℕ → List ℕ → BlockStore → List ℕ
-storeAfter n w s = unless n (λ m. w) (clipped w 0 (storeWords s))
+storeAfter n w s = unless n (λ m. w) (storeWords s)
+
+-- ---- Opening
 
 -- of the store that a recovery with the answer v leaves: the index rows counted are word 8, and the summary begins at word 25
 unfoldable pub openedWords : ℕ → ℕ → List ℕ → List ℕ
 openedWords size own v = size ∷ own ∷ getD v 8 0 ∷ 0 ∷ wordsAt v 25 136
+
+-- The number of `openNumber`, by the words of a recovery's answer. A word above 19 is no number of a refusal: 18.
+unfoldable pub openedNumber : ℕ → ℕ → List ℕ → ℕ
+openedNumber size own v = pick (leb (getD v 0 0) 19) (unless (getD v 0 0) (λ n. n) (committeeCheck size own)) 18
+
+-- "a refused .. changes nothing": w are the words of the store before the call
+unfoldable pub openedAfter : ℕ → ℕ → List ℕ → List ℕ → List ℕ
+openedAfter size own v w = unless (openedNumber size own v) (λ m. w) (openedWords size own v)

@@ -1,11 +1,11 @@
 // The words of a store, which a caller of the crate node keeps between calls, and the store and the
-// reference that words stand for: a missing word counts as 0.
+// reference that words stand for.
 ghost use mathlib.Core.Path.{_≡_};
 ghost use Prim.Native.Nat.{_+_, _≤_};
 ghost use lib.ListN.{getD};
 ghost use Rattle.laws.specs.Bytes.{written};
 ghost use Rattle.text.specs.Clipped.{clipped};
-ghost use Rattle.node_store.specs.Stores.{be, wordsAt, digestAt, referenceAt, summaryIn, storeOf, storeWords, storeAfter, openedWords};
+ghost use Rattle.node_store.specs.Stores.{be, wordsAt, digestAt, referenceAt, summaryIn, storeOf, storeWords, storeAfter, openedNumber, openedWords, openedAfter};
 use crypto::BlockDigest;
 use index::FoundReference;
 use index::StoreSummary;
@@ -108,7 +108,7 @@ fn summary_of(words: &[u64]) -> StoreSummary
 }
 
 // The store in a store's words.
-pub fn store_of(words: &[u64]) -> BlockStore
+pub fn store_of(words: &[u64; 140]) -> BlockStore
     ensures { λ r. ⌜ r ≡ storeOf (now (words .entry)) ⌝ }
 {
     let summary = summary_of(words);
@@ -130,7 +130,7 @@ fn put_store(out: &mut [u64], s: BlockStore)
 }
 
 // Puts the store that a call leaves; a refused one leaves the words as they are.
-pub fn keep_store(out: &mut [u64], number: u8, s: BlockStore)
+pub fn keep_store(out: &mut [u64; 140], number: u8, s: BlockStore)
     ensures { λ _. ⌜ now (out .exit) ≡ storeAfter number (now (out .entry)) s ⌝ }
 {
     if number != 0 {
@@ -139,8 +139,36 @@ pub fn keep_store(out: &mut [u64], number: u8, s: BlockStore)
     put_store(out, s);
 }
 
-// Puts the store that a recovery leaves, whose answer's words are `recovered`.
-pub fn put_opened(out: &mut [u64], size: u64, own: u64, recovered: &[u64])
+// The recovery's number, then the committee's: 0, or the refusal's number. A word that is no number of a
+// refusal comes from no recovery, and is refused with 18.
+fn open_number(size: u64, own: u64, recovered: &[u64; 161]) -> u8
+    ensures { λ r. ⌜ r ≡ openedNumber size own (now (recovered .entry)) ⌝ }
+{
+    let number = recovered[0];
+    if 19 < number {
+        return 18;
+    }
+    if number != 0 {
+        return number as u8;
+    }
+    committee::check_committee(size, own)
+}
+
+// Puts the store that a recovery leaves, whose answer's words are `recovered`; a refusal leaves the words
+// as they are.
+pub fn open_store(out: &mut [u64; 140], size: u64, own: u64, recovered: &[u64; 161]) -> u8
+    ensures { λ r. ⌜ (r ≡ openedNumber size own (now (recovered .entry)))
+        × (now (out .exit) ≡ openedAfter size own (now (recovered .entry)) (now (out .entry))) ⌝ }
+{
+    let number = open_number(size, own, recovered);
+    if number != 0 {
+        return number;
+    }
+    put_opened(out, size, own, recovered);
+    0
+}
+
+fn put_opened(out: &mut [u64], size: u64, own: u64, recovered: &[u64])
     ensures { λ _. ⌜ now (out .exit) ≡ clipped (now (out .entry)) 0 (openedWords size own (now (recovered .entry))) ⌝ }
 {
     let words = [

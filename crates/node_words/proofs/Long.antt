@@ -21,7 +21,7 @@ pub summary-long : (s : StoreSummary) → length (s .«last_seen_by_authority»)
 unfolding summaryWords
 summary-long s h = long-behind (foundWords (s .«last_own_block»)) _ (long-found (s .«last_own_block»)) (ap suc h)
 
-words-long : (r : Recovered) → length (r .replay .blocks .summary .«last_seen_by_authority») ≡ 128 → length (recoveredWords r) ≡ 161
+pub words-long : (r : Recovered) → length (r .replay .blocks .summary .«last_seen_by_authority») ≡ 128 → length (recoveredWords r) ≡ 161
 unfolding recoveredWords
 words-long r h =
     long-behind (headWords r) _ (long-head r)

@@ -1,14 +1,15 @@
 -- Words put behind words, and the words of an answer's parts. Assumes nothing.
 use mathlib.Core.Path.{_≡_, refl, sym, ap, _∙_}
 use mathlib.Core.Bool.{Bool, true, false}
-use mathlib.Core.List.{List, [], _∷_, _++_}
+use mathlib.Core.List.{List, [], _∷_, _++_, append-nil}
 use Prim.Native.Nat.{ℕ, _+_, _≤_}
 use mir.Val.{boolByte}
 use native.Mathlib.Nat.{add-assoc}
+use native.Mathlib.Omega.{arith}
 use lib.Dec.{lit≤}
-use lib.ListN.{length, length-append}
+use lib.ListN.{length, drop-of-length-le, length-append}
 use Rattle.text.specs.Clipped.{clipped}
-use Rattle.text.proofs.Clipped.{then-clipped}
+use Rattle.text.proofs.Clipped.{clipped-fits, then-clipped}
 use Rattle.wal.specs.declared.Stop.{Stop}
 use Rattle.wal.specs.declared.Stop.the-variants.{End, Zeros, Torn}
 use Rattle.wal.specs.declared.Walked.{Walked}
@@ -38,6 +39,11 @@ pub behind : (s : List ℕ) (p n : ℕ) (a b : List ℕ) {t t′ : List ℕ}
     → length a ≡ n → t ≡ clipped s p a → t′ ≡ clipped t (p + n) b → t′ ≡ clipped s p (a ++ b)
 behind s p n a b e f g =
     g ∙ ap (λ (l : List ℕ). clipped l (p + n) b) f ∙ then-clipped s p (p + n) a b (ap (λ (m : ℕ). p + m) (sym e))
+
+-- words put over as many
+pub over-all : (s v : List ℕ) → length s ≡ length v → clipped s 0 v ≡ v
+over-all s v h =
+    clipped-fits s 0 v (omega (arith, h)) ∙ ap (λ (l : List ℕ). v ++ l) (drop-of-length-le s {i = 0 + length v} (omega (arith, h))) ∙ append-nil v
 
 -- how many words each part has
 pub long-walked : (w : Walked) → length (walkedWords w) ≡ 5

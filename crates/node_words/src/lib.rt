@@ -1,6 +1,7 @@
-// Words that a caller of the crate node lends for an answer: they are put as far as the slice reaches.
+// Words that a caller of the crate node lends for an answer.
 ghost use mathlib.Core.Path.{_≡_};
 ghost use Prim.Native.Nat.{_≤_};
+ghost use lib.ListN.{length};
 ghost use Rattle.text.specs.Clipped.{clipped};
 ghost use Rattle.node_words.specs.Words.{stopWord, walkedWords, spanWords, foundWords, headWords, summaryWords, recoveredWords};
 use index::FoundReference;
@@ -91,10 +92,11 @@ fn put_head(out: &mut [u64], r: Recovered)
     put_words(out, 5, &counts);
 }
 
-// The own block, the highest round and the last seen rounds, from index at on.
+// The own block, the highest round and the last seen rounds, from index at on; of the last, that they are 128.
 pub fn put_summary(out: &mut [u64], at: usize, s: StoreSummary)
     requires { ⌜ at ≤ 25 ⌝ }
-    ensures { λ _. ⌜ now (out .exit) ≡ clipped (now (out .entry)) at (summaryWords s) ⌝ }
+    ensures { λ _. ⌜ (now (out .exit) ≡ clipped (now (out .entry)) at (summaryWords s))
+        × (length (s .«last_seen_by_authority») ≡ 128) ⌝ }
 {
     put_reference(out, at, s.last_own_block);
     let highest = [s.highest_round];
@@ -104,8 +106,8 @@ pub fn put_summary(out: &mut [u64], at: usize, s: StoreSummary)
 }
 
 // A recovery's answer.
-pub fn put_recovered(out: &mut [u64], r: Recovered)
-    ensures { λ _. ⌜ now (out .exit) ≡ clipped (now (out .entry)) 0 (recoveredWords r) ⌝ }
+pub fn put_recovered(out: &mut [u64; 161], r: Recovered)
+    ensures { λ _. ⌜ now (out .exit) ≡ recoveredWords r ⌝ }
 {
     put_head(out, r);
     let s = r.replay;

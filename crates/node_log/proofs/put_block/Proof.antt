@@ -1,82 +1,61 @@
--- `node_log::put_block` meets its contract: the reference, and the fields behind it. Assumes nothing.
 use borrow.Author.Needs.{needs}
-use mathlib.Core.Path.{refl}
-use Rattle.index.specs.Keys.{keyWords, digestWords}
-use Rattle.node_words.proofs.Words.{flag-is}
-use Rattle.node_log.proofs.Records.{block-put}
 use Rattle.node_log.proofs.put_block.Statement.{statement}
 use Rattle.node_log.proofs.put_block.Tie as tie
+use Rattle.node_log.proofs.put_block.Reads as reads
+use Rattle.node_log.proofs.put_block.Lts as lts
+use Rattle.index.proofs.key_of.Reads as key-of-reads
 
+-- src/lib.rt:77:13
 key-of-requires : tie.Need-key-of-requires
 key-of-requires c κs = search needs
 
-cast-t8 : tie.Need-cast-t8
-cast-t8 c = search needs
+-- src/lib.rt:79:9
+cast-t7 : tie.Need-cast-t7
+cast-t7 c = search needs
 
-array-read-t11 : tie.Need-array-read-t11
-array-read-t11 c = search needs
+-- src/lib.rt:80:9
+array-read-t10 : tie.Need-array-read-t10
+array-read-t10 c = search needs
 
-array-read-t14 : tie.Need-array-read-t14
-array-read-t14 c = search needs
+-- src/lib.rt:81:9
+array-read-t13 : tie.Need-array-read-t13
+array-read-t13 c = search needs
 
-array-read-t17 : tie.Need-array-read-t17
-array-read-t17 c = search needs
+-- src/lib.rt:82:9
+array-read-t16 : tie.Need-array-read-t16
+array-read-t16 c = search needs
 
-array-read-t20 : tie.Need-array-read-t20
-array-read-t20 c = search needs
+-- src/lib.rt:83:9
+array-read-t19 : tie.Need-array-read-t19
+array-read-t19 c = search needs
 
-array-read-t23 : tie.Need-array-read-t23
-array-read-t23 c = search needs
+-- src/lib.rt:84:9
+array-read-t22 : tie.Need-array-read-t22
+array-read-t22 c = search needs
 
-array-read-t26 : tie.Need-array-read-t26
-array-read-t26 c = search needs
+-- src/lib.rt:85:9
+array-read-t25 : tie.Need-array-read-t25
+array-read-t25 c = search needs
 
-slice-aggregate-put-words : tie.Need-slice-aggregate-put-words
-slice-aggregate-put-words c = search needs
+-- src/lib.rt:92:9
+cast-t30 : tie.Need-cast-t30
+cast-t30 c = search needs
 
-put-words-requires : tie.Need-put-words-requires
-put-words-requires c κs = search needs
-
-cast-t20 : tie.Need-cast-t20
-cast-t20 c = search needs
-
-slice-aggregate-put-words-2 : tie.Need-slice-aggregate-put-words-2
-slice-aggregate-put-words-2 c = search needs
-
-put-words-requires-2 : tie.Need-put-words-requires-2
-put-words-requires-2 c κs = search needs
-
-same-length : tie.Need-same-length
-same-length c = search needs
-
+-- src/lib.rt:73:1
 returns : tie.Need-returns
-unfolding keyWords digestWords
-returns c =
-    let a = c .before .before .before .before .before .before .before .before .before .before .before .before .before .before .before .args in
-    record {
-      number = refl;
-      words =
-          block-put (a .d) (a .answer .now)
-          (rw (c .before .before .before .before .before .before .before .before .before .before .before .before .key-of .ensures, flag-is (a .d .ok)) at (c .before .before .before .before .before .before .before .before .put-words .ensures))
-          (rw (flag-is (a .d .block .«epoch_marker»)) at (c .before .before .put-words2 .ensures));
-    }
+returns c = ?
 
 pub put-block-spec : {M : Type 1} → statement M
 put-block-spec =
     tie.close
     (tie.spec
     key-of-requires
-    cast-t8
-    array-read-t11
-    array-read-t14
-    array-read-t17
-    array-read-t20
-    array-read-t23
-    array-read-t26
-    slice-aggregate-put-words
-    put-words-requires
-    cast-t20
-    slice-aggregate-put-words-2
-    put-words-requires-2
-    same-length
+    cast-t7
+    array-read-t10
+    array-read-t13
+    array-read-t16
+    array-read-t19
+    array-read-t22
+    array-read-t25
+    cast-t30
     returns)

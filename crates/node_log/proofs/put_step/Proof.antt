@@ -1,79 +1,53 @@
--- `node_log::put_step` meets its contract: the words of each answer. Assumes nothing.
 use borrow.Author.Needs.{needs}
-use mathlib.Core.Path.{refl}
-use native.Mathlib.Numerals.{add-one}
-use native.Mathlib.Omega.{arith}
-use Rattle.node_words.proofs.Words.{stop-small}
-use Rattle.node_log.specs.Answers.{entryWords, stepNumber, stepWords}
-use Rattle.node_log.proofs.Giving.{gives-as}
 use Rattle.node_log.proofs.put_step.Statement.{statement}
 use Rattle.node_log.proofs.put_step.Tie as tie
+use Rattle.node_log.proofs.put_step.Reads as reads
+use Rattle.node_log.proofs.put_step.Lts as lts
+use Rattle.node_words.proofs.stop_word.Reads as stop-word-reads
 
+-- src/lib.rt:53:25
 enum-known-step : tie.Need-enum-known-step
 enum-known-step c = search needs
 
+-- src/lib.rt:54:46
 cast-t12 : tie.Need-cast-t12
 cast-t12 c = search needs
 
+-- src/lib.rt:54:67
 cast-t13 : tie.Need-cast-t13
 cast-t13 c = search needs
 
-slice-aggregate-put-words : tie.Need-slice-aggregate-put-words
-slice-aggregate-put-words c = search needs
-
-put-words-requires : tie.Need-put-words-requires
-put-words-requires c κs = search needs
-
+-- src/lib.rt:58:27
 enum-known-step-2 : tie.Need-enum-known-step-2
 enum-known-step-2 c = search needs
 
+-- src/lib.rt:59:17
 stop-word-requires : tie.Need-stop-word-requires
 stop-word-requires c κs = search needs
 
-add-t19 : tie.Need-add-t19
-add-t19 c = omega (arith, c .stop-word .ensures, stop-small (c .before .before .step2 .given .0 .0))
+-- src/lib.rt:60:29
+add-t14 : tie.Need-add-t14
+add-t14 c = ?
 
-slice-aggregate-put-words-2 : tie.Need-slice-aggregate-put-words-2
-slice-aggregate-put-words-2 c = search needs
-
-put-words-requires-2 : tie.Need-put-words-requires-2
-put-words-requires-2 c κs = search needs
-
+-- src/lib.rt:64:27
 enum-known-step-3 : tie.Need-enum-known-step-3
 enum-known-step-3 c = search needs
 
-cast-t25 : tie.Need-cast-t25
-cast-t25 c = search needs
+-- src/lib.rt:65:26
+cast-t15 : tie.Need-cast-t15
+cast-t15 c = search needs
 
-slice-aggregate-put-words-3 : tie.Need-slice-aggregate-put-words-3
-slice-aggregate-put-words-3 c = search needs
-
-put-words-requires-3 : tie.Need-put-words-requires-3
-put-words-requires-3 c κs = search needs
-
-same-length : tie.Need-same-length
-same-length c = search needs
-
+-- src/lib.rt:49:1
 returns : tie.Need-returns
-unfolding stepNumber stepWords entryWords
-returns c =
-    gives-as stepNumber stepWords (c .before .before .before .before .before .before .before .before .before .before .before .args .answer .now) (c .before .before .before .before .before .before .before .before .step .given .1) refl (c .before .before .put-words .ensures)
+returns c = ?
 
-same-length-2 : tie.Need-same-length-2
-same-length-2 c = search needs
-
+-- src/lib.rt:49:1
 returns-2 : tie.Need-returns-2
-unfolding stepNumber stepWords entryWords
-returns-2 c =
-    gives-as stepNumber stepWords (c .before .before .before .before .before .before .before .before .before .before .args .answer .now) (c .before .before .before .before .before .before .before .step2 .given .1) refl (rw (c .before .before .before .before .before .stop-word .ensures, add-one) at (c .before .before .put-words2 .ensures))
+returns-2 c = ?
 
-same-length-3 : tie.Need-same-length-3
-same-length-3 c = search needs
-
+-- src/lib.rt:49:1
 returns-3 : tie.Need-returns-3
-unfolding stepNumber stepWords entryWords
-returns-3 c =
-    gives-as stepNumber stepWords (c .before .before .before .before .before .before .before .before .before .args .answer .now) (c .before .before .before .before .before .before .step3 .given .1) refl (c .before .before .put-words3 .ensures)
+returns-3 c = ?
 
 pub put-step-spec : {M : Type 1} → statement M
 put-step-spec =
@@ -82,20 +56,11 @@ put-step-spec =
     enum-known-step
     cast-t12
     cast-t13
-    slice-aggregate-put-words
-    put-words-requires
     enum-known-step-2
     stop-word-requires
-    add-t19
-    slice-aggregate-put-words-2
-    put-words-requires-2
+    add-t14
     enum-known-step-3
-    cast-t25
-    slice-aggregate-put-words-3
-    put-words-requires-3
-    same-length
+    cast-t15
     returns
-    same-length-2
     returns-2
-    same-length-3
     returns-3)

@@ -19,7 +19,7 @@ same-length c = search needs
 returns : tie.Need-returns
 returns c =
     let a = c .before .before .before .before .before .before .before .before .before .before .args in
-    store-put (a .s) (a .out .now) (c .before .before .before .before .before .before .put-words .ensures) (c .before .before .put-summary .ensures)
+    store-put (a .s) (a .out .now) (c .before .before .before .before .before .before .put-words .ensures) (c .before .before .put-summary .ensures .0)
 
 pub put-store-spec : {M : Type 1} → statement M
 put-store-spec =

@@ -24,11 +24,11 @@ unfolding storeOf
 returns c =
     λ i.
     record {
-      «committee_size» = c .before .before .before .word-at .ensures i;
-      authority = c .before .before .word-at2 .ensures i;
-      rows = c .before .word-at3 .ensures i;
+      «committee_size» = c .before .before .before .before .before .before .word-at .ensures i;
+      authority = c .before .before .before .before .word-at2 .ensures i;
+      rows = c .before .before .word-at3 .ensures i;
       loads = c .word-at4 .ensures i;
-      summary = c .before .before .before .before .summary-of .ensures i;
+      summary = c .before .before .before .before .before .before .before .before .summary-of .ensures i;
     }
 
 pub store-of-spec : {M : Type 1} → statement M

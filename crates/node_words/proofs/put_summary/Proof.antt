@@ -1,5 +1,7 @@
 -- `node_words::put_summary` meets its contract: its parts stand one behind the other. Assumes nothing.
 use borrow.Author.Needs.{needs}
+use mathlib.Core.Path.{_≡_}
+use lib.ListN.{length}
 use Rattle.node_words.proofs.Words.{summary-put}
 use Rattle.node_words.proofs.put_summary.Statement.{statement}
 use Rattle.node_words.proofs.put_summary.Tie as tie
@@ -31,7 +33,8 @@ same-length c = search needs
 returns : tie.Need-returns
 returns c =
     let a = c .before .before .before .before .before .before .before .before .before .before .before .before .before .before .before .before .args in
-    summary-put (a .s) (a .out .now) (a .at) (c .before .before .before .before .before .before .before .before .before .before .before .before .before .put-reference .ensures) (c .before .before .before .before .before .before .before .before .put-words .ensures) (c .before .before .put-words2 .ensures)
+    let rounds : length (a .s .«last_seen_by_authority») ≡ 128 = search needs in
+    (summary-put (a .s) (a .out .now) (a .at) (c .before .before .before .before .before .before .before .before .before .before .before .before .before .put-reference .ensures) (c .before .before .before .before .before .before .before .before .put-words .ensures) (c .before .before .put-words2 .ensures), rounds)
 
 pub put-summary-spec : {M : Type 1} → statement M
 put-summary-spec =

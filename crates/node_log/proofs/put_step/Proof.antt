@@ -1,53 +1,49 @@
+-- `node_log::put_step` meets its contract: the words of each step. Assumes nothing.
 use borrow.Author.Needs.{needs}
+use mathlib.Core.Path.{refl}
+use native.Mathlib.Numerals.{add-one}
+use native.Mathlib.Omega.{arith}
+use Rattle.node_words.proofs.Words.{stop-small}
+use Rattle.node_log.specs.Answers.{entryWords, stepNumber, stepWords}
+use Rattle.node_log.proofs.Giving.{gives-as}
 use Rattle.node_log.proofs.put_step.Statement.{statement}
 use Rattle.node_log.proofs.put_step.Tie as tie
-use Rattle.node_log.proofs.put_step.Reads as reads
-use Rattle.node_log.proofs.put_step.Lts as lts
-use Rattle.node_words.proofs.stop_word.Reads as stop-word-reads
 
--- src/lib.rt:53:25
 enum-known-step : tie.Need-enum-known-step
 enum-known-step c = search needs
 
--- src/lib.rt:54:46
 cast-t12 : tie.Need-cast-t12
 cast-t12 c = search needs
 
--- src/lib.rt:54:67
 cast-t13 : tie.Need-cast-t13
 cast-t13 c = search needs
 
--- src/lib.rt:58:27
 enum-known-step-2 : tie.Need-enum-known-step-2
 enum-known-step-2 c = search needs
 
--- src/lib.rt:59:17
 stop-word-requires : tie.Need-stop-word-requires
 stop-word-requires c κs = search needs
 
--- src/lib.rt:60:29
 add-t14 : tie.Need-add-t14
-add-t14 c = ?
+add-t14 c = omega (arith, c .stop-word .ensures, stop-small (c .before .before .step2 .given .0 .0))
 
--- src/lib.rt:64:27
 enum-known-step-3 : tie.Need-enum-known-step-3
 enum-known-step-3 c = search needs
 
--- src/lib.rt:65:26
 cast-t15 : tie.Need-cast-t15
 cast-t15 c = search needs
 
--- src/lib.rt:49:1
 returns : tie.Need-returns
-returns c = ?
+unfolding stepNumber stepWords entryWords
+returns c = gives-as stepNumber stepWords (c .before .before .before .step .given .1) refl refl
 
--- src/lib.rt:49:1
 returns-2 : tie.Need-returns-2
-returns-2 c = ?
+unfolding stepNumber stepWords
+returns-2 c = gives-as stepNumber stepWords (c .before .before .step2 .given .1) refl (rw (c .stop-word .ensures, add-one))
 
--- src/lib.rt:49:1
 returns-3 : tie.Need-returns-3
-returns-3 c = ?
+unfolding stepNumber stepWords
+returns-3 c = gives-as stepNumber stepWords (c .before .step3 .given .1) refl refl
 
 pub put-step-spec : {M : Type 1} → statement M
 put-step-spec =

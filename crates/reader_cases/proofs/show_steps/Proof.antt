@@ -35,7 +35,8 @@ loop-less c =
     let at-loop = at-call .before in
     let a = at-loop .before .before .args in
     let is = sym (c .before .enum-told .given .1) ∙ ap (λ (x : Stepped). x .step) (at-call .step-through .ensures) in
-    let next = stepping-next (a .k) (a .image .now) (a .used) (at-loop .loop .e .0) (at-loop .loop .inv) (c .before .enum-told .given .0 .0) is (ap (λ (x : Stepped). x .position .0) (at-call .step-through .ensures)) in
+    let next = stepping-next (a .k) (a .image .now) (a .used) (at-loop .loop .e .0) (at-loop .loop .inv) (c .before .enum-told .given .0 .0)
+    is (ap (λ (x : Stepped). x .position .0) (at-call .step-through .ensures)) in
     omega arith
 
 loop-again : tie.Need-loop-again Inv-loop μ-loop
@@ -44,7 +45,8 @@ loop-again c =
     let at-loop = at-call .before in
     let a = at-loop .before .before .args in
     let is = sym (c .before .enum-told .given .1) ∙ ap (λ (x : Stepped). x .step) (at-call .step-through .ensures) in
-    stepping-next (a .k) (a .image .now) (a .used) (at-loop .loop .e .0) (at-loop .loop .inv) (c .before .enum-told .given .0 .0) is (ap (λ (x : Stepped). x .position .0) (at-call .step-through .ensures)) .0
+    stepping-next (a .k) (a .image .now) (a .used) (at-loop .loop .e .0) (at-loop .loop .inv) (c .before .enum-told .given .0 .0) is
+    (ap (λ (x : Stepped). x .position .0) (at-call .step-through .ensures)) .0
 
 enum-told-2 : tie.Need-enum-told-2 Inv-loop μ-loop
 enum-told-2 c = search needs

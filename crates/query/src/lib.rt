@@ -74,8 +74,11 @@ fn collect(
     out: &mut [u64],
 ) -> Collected
     requires { ⌜ (8 * to ≤ length (now index)) × (now out ≡ zeros (length (now out))) ⌝ }
-    ensures { λ r. ⌜ r ≡ collectedOf (chosen every author limit (between from to (now (index .entry)))) (readRows k (now (image .entry)) used (chosen every author limit (between from to (now (index .entry))))) ⌝ }
-    ensures { λ _. ⌜ HoldsRows (readRows k (now (image .entry)) used (chosen every author limit (between from to (now (index .entry))))) (now (out .exit)) ⌝ }
+    ensures { λ r. ⌜ r ≡ collectedOf (chosen every author limit (between from to (now (index .entry))))
+        (readRows k (now (image .entry)) used (chosen every author limit (between from to (now (index .entry))))) ⌝ }
+    ensures { λ _. ⌜ HoldsRows
+        (readRows k (now (image .entry)) used (chosen every author limit (between from to (now (index .entry)))))
+        (now (out .exit)) ⌝ }
 {
     let mut i = from;
     let mut n = 0;

@@ -31,7 +31,8 @@ abbrev pub GetBlock : ℕ → List ℕ → ℕ → BlockStore → List ℕ → B
 GetBlock k image used store index reference r out out′ = QueryAnswers (getBlock (callOf k image used store index) reference) r out out′
 
 abbrev pub GetBlocksByRound : ℕ → List ℕ → ℕ → BlockStore → List ℕ → ℕ → Looked → List ℕ → List ℕ → Type 0
-GetBlocksByRound k image used store index round r out out′ = QueryAnswers (getBlocksByRound (callOf k image used store index) round) r out out′
+GetBlocksByRound k image used store index round r out out′ =
+    QueryAnswers (getBlocksByRound (callOf k image used store index) round) r out out′
 
 abbrev pub GetBlocksAtAuthorityRound : ℕ → List ℕ → ℕ → BlockStore → List ℕ → ℕ → ℕ → Looked → List ℕ → List ℕ → Type 0
 GetBlocksAtAuthorityRound k image used store index authority round r out out′ =

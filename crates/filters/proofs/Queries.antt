@@ -1,12 +1,13 @@
 -- The rows that the code collects are those that a query asks for. Assumes nothing.
 use mathlib.Core.Path.{_≡_, sym, ap, ap₂, _∙_}
-use mathlib.Core.Bool.{true, false}
+use mathlib.Core.Bool.{Bool, true, false}
 use mathlib.Core.List.{List, []}
 use Prim.Native.Nat.{ℕ, suc, _+_, _*_, _≤_, _<_}
 use native.Mathlib.Omega.{arith}
 use lib.Dec.{eqb, ltb}
 use lib.ListN.{length, take, drop, getD, length-drop}
 use lib.Seq.{take-add, drop-at, length-take-le}
+use Rattle.laws.specs.Pick.{pick}
 use Rattle.rows.specs.declared.Place.the-variants.{At, Gap}
 use Rattle.rows.specs.Rows.{rowsOf, Ascending, below, placeOf}
 use Rattle.rows.proofs.Rows.{length-rowsOf, getD-rowsOf, first-rowAt}
@@ -74,16 +75,22 @@ module _ (w : List ℕ) (count : ℕ) (fits : 8 * count ≤ length w) where
       these : between from to w ≡ keep (λ r. eqb (roundOf r) round) (rowsOf count w)
       these = ap₂ (λ (from to : ℕ). between from to w) starts ends ∙ round-rows round
 
-      pub of-round : chosen true 0 (length w) (between from to w) ≡ byRound round (rowsOf count w)
+      of-round : (author : ℕ) → chosen true author (length w) (between from to w) ≡ byRound round (rowsOf count w)
       unfolding byRound
-      of-round = chosen-every 0 (length w) (between from to w) (omega (arith, length-between from to w, round-within)) ∙ these
+      of-round author = chosen-every author (length w) (between from to w) (omega (arith, length-between from to w, round-within)) ∙ these
 
-      pub of-author-round : (author : ℕ) → chosen false author (length w) (between from to w) ≡ byAuthorRound author round (rowsOf count w)
+      of-author-round : (author : ℕ) → chosen false author (length w) (between from to w) ≡ byAuthorRound author round (rowsOf count w)
       unfolding byAuthorRound
       of-author-round author =
           chosen-author author (length w) (between from to w) (omega (arith, length-between from to w, round-within))
           ∙ ap (keep (λ r. eqb (authorOf r) author)) these
           ∙ sym (keep-both (λ r. eqb (authorOf r) author) (λ r. eqb (roundOf r) round) (rowsOf count w))
+
+      pub of-rounds : (every : Bool) (author : ℕ)
+          → chosen every author (length w) (between from to w) ≡ pick every (byRound round) (byAuthorRound author round) (rowsOf count w)
+      unfolding pick
+      of-rounds true author = of-round author
+      of-rounds false author = of-author-round author
 
     -- after a round
     module _ (after : ℕ) {from : ℕ} (starts : from ≡ upTo after (rowsOf count w)) where

@@ -1,3 +1,4 @@
+pub mod Decoding
 pub mod Inserting
 pub mod Kept
 pub mod Numbers

@@ -1,18 +1,13 @@
 -- A refusal is not numbered 0, so that the number 0 tells an accepted insert. Assumes nothing.
 use mathlib.Core.Path.{_≡_, refl, sym, ap, _∙_, subst}
-use mathlib.Core.Bool.{Bool, true, false}
 use mathlib.Core.List.{List}
 use Prim.Native.Nat.{ℕ, zero, suc, _+_, _^_, _<_, min}
 use native.Mathlib.Omega.{arith}
-use lib.Dec.{leb, eqb}
+use lib.Dec.{leb}
 use lib.ListN.{length}
 use mathlib.Core.Logic.{⊎-elim}
 use Rattle.laws.proofs.Tests.{eqb-cases}
-use Rattle.laws.specs.Pick.{pick}
-use Rattle.laws.specs.Parse.{Res, bad, got, answer}
 use Rattle.types.specs.declared.BlockReference.{BlockReference}
-use Rattle.types.specs.Records.{BlockValue, block}
-use Rattle.commits.specs.Records.{OwnBlockValue, ownBlock}
 use Rattle.wal_writer.specs.declared.WalWriter.{WalWriter}
 use Rattle.wal_position.specs.Checks.{logCheck, unless}
 use Rattle.wal_writer.specs.Append.{Placed, accepted, refused, startFor, within, place}
@@ -27,17 +22,13 @@ use Rattle.indexing.specs.Indexing.{Insertion, refuse, insert, loadedRow, index
 use Rattle.insert.specs.Insert.{Decoded, good, decodedReference, insertion}
 use Rattle.insert.specs.Insert as definitions
 use Rattle.indexing.proofs.Indexing.{block-refused, index-full, index-counted}
+use Rattle.insert.proofs.Decoding.{either, DecodedNumbered, block-numbered}
 use Rattle.insert.proofs.Inserting.{call-refused, place-refused, undecoded, decoded}
 
 unless-numbered : {A : Type 0} (P : A → Type 0) (f : ℕ → A) (n : ℕ) (x : A) → ((m : ℕ) → 0 < m → P (f m)) → P x → P (unless n f x)
 unfolding unless
 unless-numbered P f zero x r h = h
 unless-numbered P f (suc n) x r h = r (suc n) (omega arith)
-
-either : {A : Type 0} (P : A → Type 0) (t : Bool) {x y : A} → P x → P y → P (pick t x y)
-unfolding pick
-either P true a b = a
-either P false a b = b
 
 abbrev PlaceNumbered : Placed → Type 0
 PlaceNumbered (accepted start) = Unit {0}
@@ -50,23 +41,6 @@ place-numbered k used size n =
     (either PlaceNumbered (leb (n + 16) (2 ^ k))
     (either PlaceNumbered (leb (startFor k used n + (n + 16)) (min size (2 ^ 40))) tt (omega arith))
     (omega arith))
-
-abbrev DecodedNumbered : Decoded → Type 0
-DecodedNumbered (definitions.Decoded.bad n) = 0 < n
-DecodedNumbered (good r) = Unit {0}
-
-answer-numbered : {A : Type 0} (n : ℕ) (f : A → BlockReference) → 0 < n → (x : Res A)
-    → DecodedNumbered (answer (definitions.Decoded.bad n) (λ v e. good (f v)) x)
-unfolding answer
-answer-numbered n f h bad = h
-answer-numbered n f h (got v e) = tt
-
-block-numbered : (tag : ℕ) (payload : List ℕ) → DecodedNumbered (decodedReference tag payload)
-unfolding decodedReference
-block-numbered tag payload =
-    either DecodedNumbered (eqb tag 1)
-    (answer-numbered 9 (λ (b : BlockValue). b .reference) (omega arith) (block payload 0))
-    (answer-numbered 10 (λ (o : OwnBlockValue). o .block .reference) (omega arith) (ownBlock payload 0))
 
 abbrev Numbered : Insertion → Type 0
 Numbered (refuse n) = 0 < n

@@ -1,15 +1,14 @@
 -- The answer of a query: refused by a check, or made of the blocks that were collected. Assumes nothing.
 use mathlib.Core.Path.{_≡_, refl, sym, ap, ap₂, _∙_, subst}
 use mathlib.Core.List.{List, [], _∷_}
-use Prim.Native.Nat.{ℕ, _+_, _-_, _/_, _^_, _≤_, _<_, min}
+use Prim.Native.Nat.{ℕ, _/_, _≤_, _<_}
 use native.Mathlib.Omega.{arith}
 use lib.ListN.{length, getD}
 use borrow.Author.Tests.{le-leb, lt-leb}
 use Rattle.laws.specs.Pick.{pick}
 use Rattle.laws.specs.Bytes.{zeros}
-use Rattle.wal_position.proofs.Checks.{unless-passed, unless-refused}
-use Rattle.tables.specs.Tables.{tableOf}
-use Rattle.tables.proofs.Tables.{table-empty}
+use Rattle.wal_position.specs.Checks.{unless}
+use Rattle.wal_position.proofs.Checks.{unless-refused}
 use Rattle.laws.proofs.Written.{length-zeros}
 use Rattle.store.specs.declared.BlockStore.{BlockStore}
 use Rattle.store.specs.Store.{callCheck}
@@ -17,9 +16,9 @@ use Rattle.store.proofs.Checked.{Checked, call-checked}
 use Rattle.query.specs.declared.Looked.{Looked}
 use Rattle.query.specs.declared.Collected.{Collected}
 use Rattle.block_reader.specs.Reading.{BlockRead}
-use Rattle.query.specs.Query.{Blocks, failed, all, also, followedBy, readRows, unloaded, counted, Query, answers, fitting, query, lookedUp, answerWords, Answers}
+use Rattle.query.specs.Query.{Blocks, failed, all, also, followedBy, readRows, unloaded, counted, Query, answers, fitting, lookedUp, answerWords, Call, callNumber, Question, query, looked, lookedWords, QueryAnswers}
 use Rattle.query.specs.Query as queries
-use Rattle.query.specs.Collecting.{collectedOf, NoZero, HoldsRows, FinishesQuery}
+use Rattle.query.specs.Collecting.{collectedOf, NoZero, HoldsRows, Gives, FinishesQuery}
 use Rattle.block_reader.proofs.Reading.{NumberedBlock, is-refused, is-got, blockAt-numbered}
 
 -- ---- The checks of a call
@@ -30,6 +29,9 @@ module _ (k used size : ℕ) (store : BlockStore) (index : List ℕ) {n : ℕ} (
 
   pub checked-call : Checked store index
   checked-call = call-checked k used size store index refl passed-call
+
+pub query-checked : (c : Call) {n : ℕ} → n ≡ callNumber c → n ≡ 0 → Checked (c .store) (c .index)
+query-checked c = checked-call (c .exponent) (c .used) (length (c .image)) (c .store) (c .index)
 
 -- ---- A read that fails has a number
 
@@ -65,7 +67,7 @@ fails lent n = refl
 
 -- what was asked for is nothing to a refusal
 refusal : (store : BlockStore) (chosen : List (List ℕ)) (n : ℕ) {r : Looked} {out out′ : List ℕ} → r ≡ lookedUp store [] (queries.Query.refused n)
-    → out′ ≡ zeros (length out) → Answers store chosen (queries.Query.refused n) r out out′
+    → out′ ≡ zeros (length out) → Gives store chosen (queries.Query.refused n) r out out′
 unfolding lookedUp answerWords
 refusal store chosen n is clear = record { answer = is; words = clear }
 
@@ -85,7 +87,7 @@ module _ (store : BlockStore) (c : Collected) {r : Looked} {out out′ : List �
   finishes-refused found is clear chosen (failed n) made numbered holds =
       let same : queries.Query.refused (c .number) ≡ fitting (length out / 8) (failed n) =
       ap queries.Query.refused (collected-number chosen n made) ∙ sym (fails (length out / 8) n) in
-      subst (λ (q : Query). Answers store chosen q r out out′) same (refusal store chosen (c .number) is clear)
+      subst (λ (q : Query). Gives store chosen q r out out′) same (refusal store chosen (c .number) is clear)
   finishes-refused found is clear chosen (all rows) made numbered holds = absurd (found (collected-all chosen rows made .0))
 
   module _ (passed : c .number ≡ 0) where
@@ -94,7 +96,7 @@ module _ (store : BlockStore) (c : Collected) {r : Looked} {out out′ : List �
     finishes-full more is clear chosen (failed n) made numbered holds =
         absurd (omega (arith, collected-number chosen n made, numbered))
     finishes-full more is clear chosen (all rows) made numbered holds =
-        subst (λ (q : Query). Answers store chosen q r out out′)
+        subst (λ (q : Query). Gives store chosen q r out out′)
         (sym (too-many (length out / 8) rows (omega (arith, collected-all chosen rows made .1))))
         (refusal store chosen 15 is clear)
 
@@ -106,7 +108,7 @@ module _ (store : BlockStore) (c : Collected) {r : Looked} {out out′ : List �
     finishes-answers room is same chosen (all rows) made numbered holds =
         let all-of = collected-all chosen rows made in
         let fit : length rows ≤ length out / 8 = omega (arith, all-of .1) in
-        subst (λ (q : Query). Answers store chosen q r out out′) (sym (fits-all (length out / 8) rows fit))
+        subst (λ (q : Query). Gives store chosen q r out out′) (sym (fits-all (length out / 8) rows fit))
         (record {
           answer = is ∙ ap₂ (λ (n u : ℕ). record { number = 0; rows = n; store = counted store u }) (all-of .1) (all-of .2);
           words = same ∙ holds fit;
@@ -118,68 +120,46 @@ module _ (store : BlockStore) (c : Collected) {r : Looked} {out out′ : List �
 pub cleared : (t : List ℕ) {t′ : List ℕ} → t′ ≡ zeros (length t) → t′ ≡ zeros (length t′)
 cleared t e = e ∙ ap zeros (sym (ap length e ∙ length-zeros (length t)))
 
--- a table of no rows
-table-none : (n : ℕ) → zeros n ≡ tableOf n []
-table-none n =
-    let long : length (zeros n) ≡ n = length-zeros n in
-    table-empty (zeros n) (ap zeros (sym long)) .words ∙ ap (λ (m : ℕ). tableOf m []) long
+module _ (q : Question) {r : Looked} {out out′ : List ℕ} where
+  gives-answers : {x : Query} → x ≡ query q (length out / 8) → Gives (q .call .store) (q .chosen) x r out out′ → QueryAnswers q r out out′
+  unfolding looked lookedWords
+  gives-answers same h =
+      record {
+        answer = h .answer ∙ ap (lookedUp (q .call .store) (q .chosen)) same;
+        words = h .words ∙ ap (answerWords (length out)) same;
+      }
 
-module _ (store : BlockStore) (k : ℕ) (s : List ℕ) (used : ℕ) (chosen : List (List ℕ)) (n : ℕ) {r : Looked} {out out′ : List ℕ} where
   -- by a check
-  pub query-refused : (m : ℕ) → m ≡ n → (m ≡ 0 → ⊥) → r ≡ lookedUp store [] (queries.Query.refused m) → out′ ≡ zeros (length out)
-      → Answers store chosen (query n k s used (length out / 8) chosen) r out out′
+  pub query-refused : (m : ℕ) → m ≡ q .number → (m ≡ 0 → ⊥) → r ≡ lookedUp (q .call .store) [] (queries.Query.refused m) → out′ ≡ zeros (length out)
+      → QueryAnswers q r out out′
   unfolding query
   query-refused m number found is clear =
-      subst (λ (q : Query). Answers store chosen q r out out′)
-      (sym (unless-refused queries.Query.refused (fitting (length out / 8) (readRows k s used chosen)) n (λ e. found (number ∙ e))))
-      (refusal store chosen n (is ∙ ap (λ (m : ℕ). lookedUp store [] (queries.Query.refused m)) number) clear)
+      gives-answers
+      (ap queries.Query.refused number ∙ sym (unless-refused queries.Query.refused _ (q .number) (λ e. found (number ∙ e))))
+      (refusal (q .call .store) (q .chosen) m is clear)
 
-  module _ (passed : n ≡ 0) where
-    passes : {q : Query} → q ≡ fitting (length out / 8) (readRows k s used chosen) → Answers store chosen q r out out′
-        → Answers store chosen (query n k s used (length out / 8) chosen) r out out′
-    unfolding query
-    passes same h =
-        subst (λ (q : Query). Answers store chosen q r out out′)
-        (same ∙ sym (unless-passed queries.Query.refused (fitting (length out / 8) (readRows k s used chosen)) n passed)) h
+module _ (call : Call) (chosen : List (List ℕ)) {r : Looked} {out out′ : List ℕ} where
+  -- by what was collected for it, in a table that was cleared first
+  pub query-collected : {c : Collected} {mid : List ℕ} → length mid ≡ length out
+      → c ≡ collectedOf chosen (readRows (call .exponent) (call .image) (call .used) chosen)
+      → HoldsRows (readRows (call .exponent) (call .image) (call .used) chosen) mid → FinishesQuery (call .store) c r mid out′
+      → QueryAnswers (record { call = call; number = 0; chosen = chosen }) r out out′
+  unfolding query unless
+  query-collected {c} {mid} long made holds finishes =
+      let blocks : Blocks = readRows (call .exponent) (call .image) (call .used) chosen in
+      let done : Gives (call .store) chosen (fitting (length mid / 8) blocks) r mid out′ =
+      finishes chosen blocks made (reads-numbered (call .exponent) (call .image) (call .used) chosen) holds in
+      gives-answers (record { call = call; number = 0; chosen = chosen }) (ap (λ (m : ℕ). fitting (m / 8) blocks) long)
+      (record { answer = done .answer; words = done .words ∙ ap (λ (m : ℕ). answerWords m (fitting (length mid / 8) blocks)) long })
 
-    -- by what was collected for it, in a table that was cleared first
-    pub query-answers : (these : List (List ℕ)) {c : Collected} {mid : List ℕ} → these ≡ chosen → length mid ≡ length out
-        → c ≡ collectedOf these (readRows k s used these) → HoldsRows (readRows k s used these) mid → FinishesQuery store c r mid out′
-        → Answers store chosen (query n k s used (length out / 8) chosen) r out out′
-    query-answers these {c} {mid} same long made holds finishes =
-        passes (ap₂ (λ (m : ℕ) (l : List (List ℕ)). fitting (m / 8) (readRows k s used l)) long same)
-        (let done : Answers store these (fitting (length mid / 8) (readRows k s used these)) r mid out′ =
-        finishes these (readRows k s used these) made (reads-numbered k s used these) holds in
-        record {
-          answer = done .answer ∙ ap (λ (l : List (List ℕ)). lookedUp store l (fitting (length mid / 8) (readRows k s used these))) same;
-          words = done .words ∙ ap (λ (m : ℕ). answerWords m (fitting (length mid / 8) (readRows k s used these))) long;
-        })
-
-    -- by nothing, where no row is asked for
-    pub query-nothing : chosen ≡ [] → store .loads < 2 ^ 64 → r ≡ record { number = 0; rows = 0; store = store } → out′ ≡ zeros (length out)
-        → Answers store chosen (query n k s used (length out / 8) chosen) r out out′
-    unfolding lookedUp answerWords readRows counted unloaded
-    query-nothing none small is clear =
-        let loads : store .loads ≡ min (store .loads + 0) (2 ^ 64 - 1) = omega arith in
-        passes (sym (fits-all (length out / 8) [] (omega arith)) ∙ sym (ap (λ (l : List (List ℕ)). fitting (length out / 8) (readRows k s used l)) none))
-        (record {
-          answer =
-              is
-              ∙ ap
-              (λ (m : ℕ).
-              record {
-                number = 0;
-                rows = 0;
-                store =
-                    record {
-                      «committee_size» = store .«committee_size»;
-                      authority = store .authority;
-                      rows = store .rows;
-                      loads = m;
-                      summary = store .summary;
-                    };
-              })
-              loads
-              ∙ sym (ap (λ (l : List (List ℕ)). lookedUp store l (answers [])) none);
-          words = clear ∙ table-none (length out);
-        })
+  -- the same question, once its checks have passed and its rows are found
+  pub query-answers : (number : ℕ) (these : List (List ℕ)) → number ≡ 0 → these ≡ chosen
+      → QueryAnswers (record { call = call; number = 0; chosen = these }) r out out′
+      → QueryAnswers (record { call = call; number = number; chosen = chosen }) r out out′
+  query-answers number these passed same h =
+      record {
+        answer =
+            h .answer ∙ ap₂ (λ (n : ℕ) (l : List (List ℕ)). looked (record { call = call; number = n; chosen = l }) (length out)) (sym passed) same;
+        words =
+            h .words ∙ ap₂ (λ (n : ℕ) (l : List (List ℕ)). lookedWords (record { call = call; number = n; chosen = l }) (length out)) (sym passed) same;
+      }

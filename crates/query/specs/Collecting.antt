@@ -10,7 +10,7 @@ use Rattle.tables.specs.Tables.{tableOf}
 use Rattle.store.specs.declared.BlockStore.{BlockStore}
 use Rattle.query.specs.declared.Looked.{Looked}
 use Rattle.query.specs.declared.Collected.{Collected}
-use Rattle.query.specs.Query.{Blocks, failed, all, unloaded, fitting, Answers}
+use Rattle.query.specs.Query.{Blocks, failed, all, unloaded, Query, fitting, lookedUp, answerWords}
 
 unfoldable pub collectedOf : List (List ℕ) → Blocks → Collected
 collectedOf rows (failed n) = record { number = n; rows = 0; unloaded = 0 }
@@ -30,8 +30,13 @@ HoldsRows (all found) out = length found ≤ length out / 8 → out ≡ tableOf 
 unfoldable pub answerPut : List ℕ → ℕ → List ℕ → List ℕ
 answerPut out i row = pick (ltb i (length out / 8)) (written out (8 * i) row) out
 
--- the answer of a query whose rows were collected
+-- the answer of a query that comes to x, and its table
+pub record Gives (store : BlockStore) (chosen : List (List ℕ)) (x : Query) (r : Looked) (out out′ : List ℕ) : Type 0 where
+  pub answer : r ≡ lookedUp store chosen x
+  pub words : out′ ≡ answerWords (length out) x
+
+-- the same where its rows were collected
 abbrev pub FinishesQuery : BlockStore → Collected → Looked → List ℕ → List ℕ → Type 0
 FinishesQuery store c r out out′ =
     (chosen : List (List ℕ)) (b : Blocks) → c ≡ collectedOf chosen b → NoZero b → HoldsRows b out
-    → Answers store chosen (fitting (length out / 8) b) r out out′
+    → Gives store chosen (fitting (length out / 8) b) r out out′

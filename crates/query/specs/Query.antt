@@ -2,7 +2,7 @@
 -- order, a read's numbers, 8, and 9 or 10; last 15. A refused query counts no load".
 use mathlib.Core.Path.{_≡_}
 use mathlib.Core.List.{List, [], _∷_, _++_}
-use Prim.Native.Nat.{ℕ, suc, _+_, _-_, _^_, min}
+use Prim.Native.Nat.{ℕ, suc, _+_, _-_, _/_, _^_, min}
 use lib.Dec.{leb}
 use lib.ListN.{length, getD}
 use Rattle.laws.specs.Pick.{pick}
@@ -12,7 +12,7 @@ use Rattle.wal_position.specs.Checks.{unless}
 use Rattle.tables.specs.Tables.{tableOf}
 use Rattle.index.specs.Keys.{keyWords}
 use Rattle.store.specs.declared.BlockStore.{BlockStore}
-use Rattle.store.specs.Store.{loaded}
+use Rattle.store.specs.Store.{indexed, callCheck, loaded}
 use Rattle.block_reader.specs.Reading as reading
 use Rattle.block_reader.specs.Reading.{BlockRead, blockAt}
 use Rattle.query.specs.declared.Looked.{Looked}
@@ -68,10 +68,6 @@ unfoldable pub fitting : ℕ → Blocks → Query
 fitting lent (failed n) = refused n
 fitting lent (all rows) = pick (leb (length rows) lent) (answers rows) (refused 15)
 
--- a query for the rows `chosen` of the index: `n` is the number of 1, 2, 18 and 19
-unfoldable pub query : ℕ → ℕ → List ℕ → ℕ → ℕ → List (List ℕ) → Query
-query n k s used lent chosen = unless n refused (fitting lent (readRows k s used chosen))
-
 unfoldable pub lookedUp : BlockStore → List (List ℕ) → Query → Looked
 lookedUp store chosen (refused n) = record { number = n; rows = 0; store = store }
 lookedUp store chosen (answers rows) = record { number = 0; rows = length rows; store = counted store (unloaded chosen) }
@@ -81,7 +77,44 @@ unfoldable pub answerWords : ℕ → Query → List ℕ
 answerWords n (refused m) = zeros n
 answerWords n (answers rows) = tableOf n rows
 
+-- ---- The call
+
+-- what every query is lent: k, the image and used, the store and its index
+pub record Call : Type 0 where
+  pub exponent : ℕ
+  pub image : List ℕ
+  pub used : ℕ
+  pub store : BlockStore
+  pub index : List ℕ
+
+abbrev pub callOf : ℕ → List ℕ → ℕ → BlockStore → List ℕ → Call
+callOf k image used store index = record { exponent = k; image = image; used = used; store = store; index = index }
+
+-- 1, 2, 18
+abbrev pub callNumber : Call → ℕ
+callNumber c = callCheck (c .exponent) (c .used) (length (c .image)) (c .store) (c .index)
+
+-- what a query asks: in which call, the number of its checks, and the rows of the index that are to be read
+pub record Question : Type 0 where
+  pub call : Call
+  pub number : ℕ
+  pub chosen : List (List ℕ)
+
+abbrev pub asking : Call → ℕ → (List (List ℕ) → List (List ℕ)) → Question
+asking c n filter = record { call = c; number = n; chosen = filter (indexed (c .store) (c .index)) }
+
+-- what it comes to, where `lent` rows are lent for the answer
+unfoldable pub query : Question → ℕ → Query
+query q lent = unless (q .number) refused (fitting lent (readRows (q .call .exponent) (q .call .image) (q .call .used) (q .chosen)))
+
+-- the answer, and the words of the answer table, where `words` words are lent for it
+unfoldable pub looked : Question → ℕ → Looked
+looked q words = lookedUp (q .call .store) (q .chosen) (query q (words / 8))
+
+unfoldable pub lookedWords : Question → ℕ → List ℕ
+lookedWords q words = answerWords words (query q (words / 8))
+
 -- the contract of a query: `out` is the table lent for the answer, `out′` what it holds after the call
-pub record Answers (store : BlockStore) (chosen : List (List ℕ)) (q : Query) (r : Looked) (out out′ : List ℕ) : Type 0 where
-  pub answer : r ≡ lookedUp store chosen q
-  pub words : out′ ≡ answerWords (length out) q
+pub record QueryAnswers (q : Question) (r : Looked) (out out′ : List ℕ) : Type 0 where
+  pub answer : r ≡ looked q (length out)
+  pub words : out′ ≡ lookedWords q (length out)

@@ -9,7 +9,7 @@ ghost use mathlib.Core.List.{[]};
 ghost use Prim.Native.Nat.{_*_, _≤_};
 ghost use lib.ListN.{length};
 ghost use Rattle.laws.specs.Bytes.{zeros};
-ghost use Rattle.query.specs.Query.{answerRow, readRows, counted, lookedUp};
+ghost use Rattle.query.specs.Query.{answerRow, readRows, counted, lookedUp, callOf, QueryAnswers};
 ghost use Rattle.query.specs.Query as queries;
 ghost use Rattle.filters.specs.Segments.{between, chosen};
 ghost use Rattle.query.specs.Collecting.{collectedOf, HoldsRows, answerPut, FinishesQuery};
@@ -30,10 +30,10 @@ pub struct Looked {
 
 // The number of a refusal, or 0, how many rows were chosen, and how many of their blocks were not
 // loaded.
-pub struct Collected {
-    pub number: u8,
-    pub rows: usize,
-    pub unloaded: u64,
+struct Collected {
+    number: u8,
+    rows: usize,
+    unloaded: u64,
 }
 
 // Stores a row in the answer table where there is room for it.
@@ -61,7 +61,7 @@ fn put_answer(out: &mut [u64], i: usize, b: ReadBlock)
 
 // Reads the blocks of the rows from `from` up to `to`, of every author or of one, at most `limit` of
 // them, into an answer table of zeros. All are read, also where the table is full: 15 comes last.
-pub fn collect(
+fn collect(
     k: u64,
     image: &[u8],
     used: u64,
@@ -74,8 +74,11 @@ pub fn collect(
     out: &mut [u64],
 ) -> Collected
     requires { ⌜ (8 * to ≤ length (now index)) × (now out ≡ zeros (length (now out))) ⌝ }
-    ensures { λ r. ⌜ r ≡ collectedOf (chosen every author limit (between from to (now (index .entry)))) (readRows k (now (image .entry)) used (chosen every author limit (between from to (now (index .entry))))) ⌝ }
-    ensures { λ _. ⌜ HoldsRows (readRows k (now (image .entry)) used (chosen every author limit (between from to (now (index .entry))))) (now (out .exit)) ⌝ }
+    ensures { λ r. ⌜ r ≡ collectedOf (chosen every author limit (between from to (now (index .entry))))
+        (readRows k (now (image .entry)) used (chosen every author limit (between from to (now (index .entry))))) ⌝ }
+    ensures { λ _. ⌜ HoldsRows
+        (readRows k (now (image .entry)) used (chosen every author limit (between from to (now (index .entry)))))
+        (now (out .exit)) ⌝ }
 {
     let mut i = from;
     let mut n = 0;
@@ -114,7 +117,7 @@ pub fn collect(
 
 // The answer of a query whose rows were collected: more rows than lent are refused, and a refusal
 // leaves no word in the table.
-pub fn finish(store: BlockStore, collected: Collected, out: &mut [u64]) -> Looked
+fn finish(store: BlockStore, collected: Collected, out: &mut [u64]) -> Looked
     ensures { λ r. ⌜ FinishesQuery store collected r (now (out .entry)) (now (out .exit)) ⌝ }
 {
     let number = collected.number;
@@ -130,6 +133,34 @@ pub fn finish(store: BlockStore, collected: Collected, out: &mut [u64]) -> Looke
         rows: collected.rows,
         store,
     }
+}
+
+// A query that no check refused, for the rows that `collect` reads.
+pub fn answer(
+    k: u64,
+    image: &[u8],
+    used: u64,
+    store: BlockStore,
+    index: &[u64],
+    from: usize,
+    to: usize,
+    every: bool,
+    author: AuthorityIndex,
+    limit: usize,
+    out: &mut [u64],
+) -> Looked
+    requires { ⌜ 8 * to ≤ length (now index) ⌝ }
+    ensures { λ r. ⌜ QueryAnswers
+        (record {
+          call = callOf k (now (image .entry)) used store (now (index .entry));
+          number = 0;
+          chosen = chosen every author limit (between from to (now (index .entry)));
+        })
+        r (now (out .entry)) (now (out .exit)) ⌝ }
+{
+    tables::clear(out);
+    let c = collect(k, image, used, index, from, to, every, author, limit, out);
+    finish(store, c, out)
 }
 
 pub fn refuse(store: BlockStore, number: u8, out: &mut [u64]) -> Looked

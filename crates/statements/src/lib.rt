@@ -52,19 +52,21 @@ pub struct NextStatement {
     pub rest: Cursor,
 }
 
+const ZERO_STATEMENT: BaseStatement = BaseStatement {
+    kind: StatementKind::Share,
+    start: 0,
+    count: 0,
+    locator: ZERO_LOCATOR,
+    vote: ACCEPT,
+    range: ZERO_RANGE,
+};
+
 fn no_statement() -> DecodedStatement
     ensures { λ r. ⌜ r ≡ noStatement ⌝ }
 {
     DecodedStatement {
         ok: false,
-        statement: BaseStatement {
-            kind: StatementKind::Share,
-            start: 0,
-            count: 0,
-            locator: ZERO_LOCATOR,
-            vote: ACCEPT,
-            range: ZERO_RANGE,
-        },
+        statement: ZERO_STATEMENT,
         end: 0,
     }
 }
@@ -206,14 +208,7 @@ fn no_next_statement() -> NextStatement
 {
     NextStatement {
         ok: false,
-        statement: BaseStatement {
-            kind: StatementKind::Share,
-            start: 0,
-            count: 0,
-            locator: ZERO_LOCATOR,
-            vote: ACCEPT,
-            range: ZERO_RANGE,
-        },
+        statement: ZERO_STATEMENT,
         rest: Cursor { at: 0, left: 0 },
     }
 }

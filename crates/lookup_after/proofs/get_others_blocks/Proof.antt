@@ -1,23 +1,28 @@
--- `lookup_after::get_others_blocks` meets its contract: an author's rows are chosen in the segment of the first rounds above a round. Assumes nothing.
-use mathlib.Core.Path.{_∙_}
-use native.Mathlib.Omega.{arith}
-use lib.ListN.{length}
-use Rattle.store.specs.Store.{indexed, callCheck}
+-- `lookup_after::get_others_blocks` meets its contract: the rows of the first rounds above one are a segment of the index. Assumes nothing.
+use mathlib.Core.Path.{sym, _∙_}
+use Rattle.store.specs.Store.{indexed}
 use Rattle.store.proofs.Checked.{Checked}
-use mathlib.Core.Bool.{false}
-use Rattle.wal_position.specs.Checks.{unless}
-use Rattle.lookup_after.specs.After.{afterCheck}
-use Rattle.filters.specs.Filters.{othersAfter}
-use Rattle.filters.specs.Segments.{between, chosen}
-use Rattle.query.proofs.Answering.{passed-call, checked-call, cleared, query-refused, query-answers}
-use Rattle.lookup_after.proofs.After.{after-refused, after-last, after-passed}
 use Rattle.filters.proofs.Queries.{after-within, rounds-within, others-after}
+use Rattle.query.specs.Query.{Call, callOf}
+use Rattle.query.proofs.Answering.{query-refused, query-answers}
+use Rattle.lookup_after.specs.After.{afterNumber, getOthersBlocks}
+use Rattle.lookup_after.proofs.After.{after-checked}
 use borrow.Author.Needs.{needs}
 use Rattle.lookup_after.proofs.get_others_blocks.Statement.{statement}
 use Rattle.lookup_after.proofs.get_others_blocks.Tie as tie
 
-check-call-requires : tie.Need-check-call-requires
-check-call-requires c κs = search needs
+-- the call, and what its checks say once they have passed
+
+abbrev call : (c : tie.Else1) → Call
+call c =
+    let a = c .before .before .before .before .before .args in
+    callOf (a .k) (a .image .now) (a .used) (a .store) (a .index .now)
+
+checked : (c : tie.Else1) → Checked (call c .store) (call c .index)
+checked c = after-checked (call c) _ (c .before .check-after .ensures) (c .if1 .left)
+
+check-after-requires : tie.Need-check-after-requires
+check-after-requires c κs = search needs
 
 refuse-requires : tie.Need-refuse-requires
 refuse-requires c κs = search needs
@@ -29,81 +34,50 @@ returns : tie.Need-returns
 returns c =
     let passed = c .before .before .before .before in
     let a = passed .before .before .before .before .before .args in
-    query-refused (a .store) (a .k) (a .image .now) (a .used) (othersAfter (a .authority) (a .from-excluded) (a .limit) (indexed (a .store) (a .index .now))) (unless (callCheck (a .k) (a .used) (length (a .image .now)) (a .store) (a .index .now)) (λ n. n) (afterCheck (a .from-excluded))) (passed .before .check-call .result)
-    (after-refused (callCheck (a .k) (a .used) (length (a .image .now)) (a .store) (a .index .now)) (a .from-excluded) (passed .before .check-call .ensures) (passed .if1 .taken)) (passed .if1 .taken) (c .before .before .refuse .ensures .0) (c .before .before .refuse .ensures .1)
+    query-refused (getOthersBlocks (callOf (a .k) (a .image .now) (a .used) (a .store) (a .index .now)) (a .from-excluded) (a .authority) (a .limit)) (passed .before .check-after .result)
+    (passed .before .check-after .ensures) (passed .if1 .taken) (c .before .before .refuse .ensures .0) (c .before .before .refuse .ensures .1)
 
-refuse-requires-2 : tie.Need-refuse-requires-2
-refuse-requires-2 c κs = search needs
+first-above-requires : tie.Need-first-above-requires
+first-above-requires c κs = (checked c .fits, checked c .ascends)
+
+rounds-end-requires : tie.Need-rounds-end-requires
+rounds-end-requires c κs =
+    let passed = c .before in
+    let a = passed .before .before .before .before .before .args in
+    let h = checked passed in
+    (h .fits, after-within (a .index .now) (a .store .rows) (h .fits) (h .ascends) (a .from-excluded) (c .first-above .ensures))
+
+answer-requires : tie.Need-answer-requires
+answer-requires c κs =
+    let passed = c .before .before .before in
+    let a = passed .before .before .before .before .before .args in
+    let h = checked passed in
+    rounds-within (a .index .now) (a .store .rows) (h .fits) (h .ascends) (a .from-excluded) (c .before .before .first-above .ensures) (a .limit) (c .before .rounds-end .ensures)
 
 same-length-2 : tie.Need-same-length-2
 same-length-2 c = search needs
 
 returns-2 : tie.Need-returns-2
+unfolding indexed
 returns-2 c =
-    let passed = c .before .before .before .before .before in
-    let a = passed .before .before .before .before .before .args in
-    query-refused (a .store) (a .k) (a .image .now) (a .used) (othersAfter (a .authority) (a .from-excluded) (a .limit) (indexed (a .store) (a .index .now))) (unless (callCheck (a .k) (a .used) (length (a .image .now)) (a .store) (a .index .now)) (λ n. n) (afterCheck (a .from-excluded))) 19
-    (after-last (callCheck (a .k) (a .used) (length (a .image .now)) (a .store) (a .index .now)) (a .from-excluded) (passed-call (a .k) (a .used) (length (a .image .now)) (a .store) (a .index .now) (passed .before .check-call .ensures) (passed .if1 .left)) (c .before .before .before .before .if2 .taken)) (λ e. omega arith) (c .before .before .refuse2 .ensures .0) (c .before .before .refuse2 .ensures .1)
-
-clear-requires : tie.Need-clear-requires
-clear-requires c κs = search needs
-
-first-above-requires : tie.Need-first-above-requires
-first-above-requires c κs =
-    let passed = c .before .before .before .before .before in
-    let a = passed .before .before .before .before .before .args in
-    let h : Checked (a .store) (a .index .now) = checked-call (a .k) (a .used) (length (a .image .now)) (a .store) (a .index .now) (passed .before .check-call .ensures) (passed .if1 .left) in
-    (h .fits, h .ascends)
-
-rounds-end-requires : tie.Need-rounds-end-requires
-rounds-end-requires c κs =
     let passed = c .before .before .before .before .before .before in
     let a = passed .before .before .before .before .before .args in
-    let h : Checked (a .store) (a .index .now) = checked-call (a .k) (a .used) (length (a .image .now)) (a .store) (a .index .now) (passed .before .check-call .ensures) (passed .if1 .left) in
-    (h .fits, after-within (a .index .now) (a .store .rows) (h .fits) (h .ascends) (a .from-excluded) (c .first-above .ensures))
-
-collect-requires : tie.Need-collect-requires
-collect-requires c κs =
-    let passed = c .before .before .before .before .before .before .before .before in
-    let a = passed .before .before .before .before .before .args in
-    let h : Checked (a .store) (a .index .now) = checked-call (a .k) (a .used) (length (a .image .now)) (a .store) (a .index .now) (passed .before .check-call .ensures) (passed .if1 .left) in
-    (rounds-within (a .index .now) (a .store .rows) (h .fits) (h .ascends) (a .from-excluded) (c .before .before .first-above .ensures) (a .limit) (c .before .rounds-end .ensures), cleared (a .out .now) (c .before .before .before .before .before .clear .ensures))
-
-finish-requires : tie.Need-finish-requires
-finish-requires c κs = search needs
-
-same-length-3 : tie.Need-same-length-3
-same-length-3 c = search needs
-
-returns-3 : tie.Need-returns-3
-unfolding indexed
-returns-3 c =
-    let collected = c .before .before .before .before .before .before in
-    let passed = collected .before .before .before .before .before .before .before .before .before in
-    let a = passed .before .before .before .before .before .args in
-    let h : Checked (a .store) (a .index .now) = checked-call (a .k) (a .used) (length (a .image .now)) (a .store) (a .index .now) (passed .before .check-call .ensures) (passed .if1 .left) in
-    query-answers (a .store) (a .k) (a .image .now) (a .used) (othersAfter (a .authority) (a .from-excluded) (a .limit) (indexed (a .store) (a .index .now))) (unless (callCheck (a .k) (a .used) (length (a .image .now)) (a .store) (a .index .now)) (λ n. n) (afterCheck (a .from-excluded)))
-    (after-passed (callCheck (a .k) (a .used) (length (a .image .now)) (a .store) (a .index .now)) (a .from-excluded) (passed-call (a .k) (a .used) (length (a .image .now)) (a .store) (a .index .now) (passed .before .check-call .ensures) (passed .if1 .left)) (collected .before .before .before .before .before .before .before .before .if2 .left))
-    (chosen false (a .authority) (length (a .index .now)) (between (collected .before .before .before .first-above .result) (collected .before .before .rounds-end .result) (a .index .now)))
-    (others-after (a .index .now) (a .store .rows) (h .fits) (h .ascends) (a .from-excluded) (collected .before .before .before .first-above .ensures) (a .limit) (collected .before .before .rounds-end .ensures) (a .authority))
-    (collected .collect .kept .1 .1 .1 .1 .1 .1 .1 .1 .1 .0 ∙ collected .before .before .before .before .before .before .clear .kept .0)
-    (collected .collect .ensures .0) (collected .collect .ensures .1) (c .before .before .finish .ensures)
+    let h = checked passed in
+    query-answers (call passed) _ (afterNumber (call passed) (a .from-excluded)) _ (sym (passed .before .check-after .ensures) ∙ passed .if1 .left)
+    (others-after (a .index .now) (a .store .rows) (h .fits) (h .ascends) (a .from-excluded) (c .before .before .before .before .before .first-above .ensures) (a .limit)
+    (c .before .before .before .before .rounds-end .ensures) (a .authority))
+    (c .before .before .answer .ensures)
 
 pub get-others-blocks-spec : {M : Type 1} → statement M
 get-others-blocks-spec =
     tie.close
     (tie.spec
-    check-call-requires
+    check-after-requires
     refuse-requires
     same-length
     returns
-    refuse-requires-2
-    same-length-2
-    returns-2
-    clear-requires
     first-above-requires
     rounds-end-requires
-    collect-requires
-    finish-requires
-    same-length-3
-    returns-3)
+    answer-requires
+    same-length-2
+    returns-2)

@@ -1,23 +1,28 @@
 -- `lookup_after::get_own_blocks` meets its contract: the rows above a round are a segment of the index. Assumes nothing.
-use mathlib.Core.Path.{_∙_}
-use native.Mathlib.Omega.{arith}
-use lib.ListN.{length}
-use Rattle.store.specs.Store.{indexed, callCheck}
+use mathlib.Core.Path.{sym, _∙_}
+use Rattle.store.specs.Store.{indexed}
 use Rattle.store.proofs.Checked.{Checked}
-use mathlib.Core.Bool.{false}
-use Rattle.wal_position.specs.Checks.{unless}
-use Rattle.lookup_after.specs.After.{afterCheck}
-use Rattle.filters.specs.Filters.{ownAfter}
-use Rattle.filters.specs.Segments.{between, chosen}
-use Rattle.query.proofs.Answering.{passed-call, checked-call, cleared, query-refused, query-answers}
-use Rattle.lookup_after.proofs.After.{after-refused, after-last, after-passed}
 use Rattle.filters.proofs.Queries.{own-after}
+use Rattle.query.specs.Query.{Call, callOf}
+use Rattle.query.proofs.Answering.{query-refused, query-answers}
+use Rattle.lookup_after.specs.After.{afterNumber, getOwnBlocks}
+use Rattle.lookup_after.proofs.After.{after-checked}
 use borrow.Author.Needs.{needs}
 use Rattle.lookup_after.proofs.get_own_blocks.Statement.{statement}
 use Rattle.lookup_after.proofs.get_own_blocks.Tie as tie
 
-check-call-requires : tie.Need-check-call-requires
-check-call-requires c κs = search needs
+-- the call, and what its checks say once they have passed
+
+abbrev call : (c : tie.Else1) → Call
+call c =
+    let a = c .before .before .before .before .before .args in
+    callOf (a .k) (a .image .now) (a .used) (a .store) (a .index .now)
+
+checked : (c : tie.Else1) → Checked (call c .store) (call c .index)
+checked c = after-checked (call c) _ (c .before .check-after .ensures) (c .if1 .left)
+
+check-after-requires : tie.Need-check-after-requires
+check-after-requires c κs = search needs
 
 refuse-requires : tie.Need-refuse-requires
 refuse-requires c κs = search needs
@@ -29,73 +34,37 @@ returns : tie.Need-returns
 returns c =
     let passed = c .before .before .before .before in
     let a = passed .before .before .before .before .before .args in
-    query-refused (a .store) (a .k) (a .image .now) (a .used) (ownAfter (a .store .authority) (a .from-excluded) (a .limit) (indexed (a .store) (a .index .now))) (unless (callCheck (a .k) (a .used) (length (a .image .now)) (a .store) (a .index .now)) (λ n. n) (afterCheck (a .from-excluded))) (passed .before .check-call .result)
-    (after-refused (callCheck (a .k) (a .used) (length (a .image .now)) (a .store) (a .index .now)) (a .from-excluded) (passed .before .check-call .ensures) (passed .if1 .taken)) (passed .if1 .taken) (c .before .before .refuse .ensures .0) (c .before .before .refuse .ensures .1)
+    query-refused (getOwnBlocks (callOf (a .k) (a .image .now) (a .used) (a .store) (a .index .now)) (a .from-excluded) (a .limit)) (passed .before .check-after .result)
+    (passed .before .check-after .ensures) (passed .if1 .taken) (c .before .before .refuse .ensures .0) (c .before .before .refuse .ensures .1)
 
-refuse-requires-2 : tie.Need-refuse-requires-2
-refuse-requires-2 c κs = search needs
+first-above-requires : tie.Need-first-above-requires
+first-above-requires c κs = (checked c .fits, checked c .ascends)
+
+answer-requires : tie.Need-answer-requires
+answer-requires c κs = checked (c .before .before) .fits
 
 same-length-2 : tie.Need-same-length-2
 same-length-2 c = search needs
 
 returns-2 : tie.Need-returns-2
+unfolding indexed
 returns-2 c =
     let passed = c .before .before .before .before .before in
     let a = passed .before .before .before .before .before .args in
-    query-refused (a .store) (a .k) (a .image .now) (a .used) (ownAfter (a .store .authority) (a .from-excluded) (a .limit) (indexed (a .store) (a .index .now))) (unless (callCheck (a .k) (a .used) (length (a .image .now)) (a .store) (a .index .now)) (λ n. n) (afterCheck (a .from-excluded))) 19
-    (after-last (callCheck (a .k) (a .used) (length (a .image .now)) (a .store) (a .index .now)) (a .from-excluded) (passed-call (a .k) (a .used) (length (a .image .now)) (a .store) (a .index .now) (passed .before .check-call .ensures) (passed .if1 .left)) (c .before .before .before .before .if2 .taken)) (λ e. omega arith) (c .before .before .refuse2 .ensures .0) (c .before .before .refuse2 .ensures .1)
-
-clear-requires : tie.Need-clear-requires
-clear-requires c κs = search needs
-
-first-above-requires : tie.Need-first-above-requires
-first-above-requires c κs =
-    let passed = c .before .before .before .before .before in
-    let a = passed .before .before .before .before .before .args in
-    let h : Checked (a .store) (a .index .now) = checked-call (a .k) (a .used) (length (a .image .now)) (a .store) (a .index .now) (passed .before .check-call .ensures) (passed .if1 .left) in
-    (h .fits, h .ascends)
-
-collect-requires : tie.Need-collect-requires
-collect-requires c κs =
-    let passed = c .before .before .before .before .before .before .before in
-    let a = passed .before .before .before .before .before .args in
-    let h : Checked (a .store) (a .index .now) = checked-call (a .k) (a .used) (length (a .image .now)) (a .store) (a .index .now) (passed .before .check-call .ensures) (passed .if1 .left) in
-    (h .fits, cleared (a .out .now) (c .before .before .before .before .clear .ensures))
-
-finish-requires : tie.Need-finish-requires
-finish-requires c κs = search needs
-
-same-length-3 : tie.Need-same-length-3
-same-length-3 c = search needs
-
-returns-3 : tie.Need-returns-3
-unfolding indexed
-returns-3 c =
-    let collected = c .before .before .before .before .before .before in
-    let passed = collected .before .before .before .before .before .before .before .before in
-    let a = passed .before .before .before .before .before .args in
-    let h : Checked (a .store) (a .index .now) = checked-call (a .k) (a .used) (length (a .image .now)) (a .store) (a .index .now) (passed .before .check-call .ensures) (passed .if1 .left) in
-    query-answers (a .store) (a .k) (a .image .now) (a .used) (ownAfter (a .store .authority) (a .from-excluded) (a .limit) (indexed (a .store) (a .index .now))) (unless (callCheck (a .k) (a .used) (length (a .image .now)) (a .store) (a .index .now)) (λ n. n) (afterCheck (a .from-excluded)))
-    (after-passed (callCheck (a .k) (a .used) (length (a .image .now)) (a .store) (a .index .now)) (a .from-excluded) (passed-call (a .k) (a .used) (length (a .image .now)) (a .store) (a .index .now) (passed .before .check-call .ensures) (passed .if1 .left)) (collected .before .before .before .before .before .before .before .if2 .left))
-    (chosen false (a .store .authority) (a .limit) (between (collected .before .before .first-above .result) (a .store .rows) (a .index .now)))
-    (own-after (a .index .now) (a .store .rows) (h .fits) (h .ascends) (a .from-excluded) (collected .before .before .first-above .ensures) (a .store .authority) (a .limit))
-    (collected .collect .kept .1 .1 .1 .1 .1 .1 .1 .1 .1 .0 ∙ collected .before .before .before .before .before .clear .kept .0)
-    (collected .collect .ensures .0) (collected .collect .ensures .1) (c .before .before .finish .ensures)
+    let h = checked passed in
+    query-answers (call passed) _ (afterNumber (call passed) (a .from-excluded)) _ (sym (passed .before .check-after .ensures) ∙ passed .if1 .left)
+    (own-after (a .index .now) (a .store .rows) (h .fits) (h .ascends) (a .from-excluded) (c .before .before .before .before .first-above .ensures) (a .store .authority) (a .limit))
+    (c .before .before .answer .ensures)
 
 pub get-own-blocks-spec : {M : Type 1} → statement M
 get-own-blocks-spec =
     tie.close
     (tie.spec
-    check-call-requires
+    check-after-requires
     refuse-requires
     same-length
     returns
-    refuse-requires-2
-    same-length-2
-    returns-2
-    clear-requires
     first-above-requires
-    collect-requires
-    finish-requires
-    same-length-3
-    returns-3)
+    answer-requires
+    same-length-2
+    returns-2)

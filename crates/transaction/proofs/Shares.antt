@@ -162,7 +162,9 @@ module _ (s : List ℕ) where
   share-within offset = by (block s 0)
     where
       by : (x : Res BlockValue)
-          → spanEnd (answer Nothing (λ (b : BlockValue) e. shareOf (nextElement statement s (after statement s offset (statementBlock 0 b .statements)))) x)
+          → spanEnd
+          (answer Nothing
+          (λ (b : BlockValue) e. shareOf (nextElement statement s (after statement s offset (statementBlock 0 b .statements)))) x)
           ≤ length s
       by bad = omega arith
       by (got b e) = next-lies (after statement s offset (statementBlock 0 b .statements)) .within

@@ -86,11 +86,13 @@ module _ (k : ℕ) (s : List ℕ) (used : ℕ) (store : BlockStore) (offset : �
         omega (arith, end, share-within (bytesAt s (b .at) (b .len)) offset, length-bytesAt s (b .at) (b .len) within)
 
     pub row-answer : {n : ℕ} {u : BlockStore} → n ≡ pick (eqb (getD w (8 * i + 7) 0) 0) 1 0 → u ≡ counted store n
-        → {x : Span} → x ≡ placed (b .at) t → _≡_ {A = FoundTransaction} (record { number = 0; share = x; store = u }) (transactionOf k s used store offset (rowAt w i ∷ []))
+        → {x : Span} → x ≡ placed (b .at) t
+        → _≡_ {A = FoundTransaction} (record { number = 0; share = x; store = u }) (transactionOf k s used store offset (rowAt w i ∷ []))
     row-answer {n} {u} loads store-is {x} share-at =
         let load : n ≡ unloaded (rowAt w i ∷ []) =
         loads ∙ ap (λ (x : ℕ). pick (eqb x 0) 1 0) (sym (word-rowAt w i 7 (lit< tt))) ∙ sym (one-load (rowAt w i)) in
-        ap₂ (λ (x : Span) (u : BlockStore). record { number = 0; share = x; store = u }) (share-at ∙ ap (placed (b .at)) share-is) (store-is ∙ ap (counted store) load)
+        ap₂ (λ (x : Span) (u : BlockStore). record { number = 0; share = x; store = u })
+        (share-at ∙ ap (placed (b .at)) share-is) (store-is ∙ ap (counted store) load)
         ∙ of-got k s used store offset (rowAt w i) (ap (blockAt k s used) position ∙ block-got k s used (getD w (8 * i + 6) 0) is none)
 
 -- ---- The row of a reference

@@ -30,7 +30,9 @@ shareOf (got (voteRange r) e) = Nothing
 -- the statement with this offset in a block's bytes; there is none past the last
 unfoldable pub shareIn : List ℕ → ℕ → Span
 shareIn s offset =
-    answer Nothing (λ (b : BlockValue) e. shareOf (nextElement statement s (after statement s offset (blocks.statementBlock 0 b .statements)))) (block s 0)
+    answer Nothing
+    (λ (b : BlockValue) e. shareOf (nextElement statement s (after statement s offset (blocks.statementBlock 0 b .statements))))
+    (block s 0)
 
 -- behind a block's place in the image
 unfoldable pub placed : ℕ → Span → Span

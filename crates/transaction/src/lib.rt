@@ -102,11 +102,14 @@ fn read_share(
             share: Span::Nothing,
             store: counted,
         },
-        Span::At(p, n) => FoundTransaction {
-            number: 0,
-            share: Span::At(at + p, n),
-            store: counted,
-        },
+        Span::At(p, n) => {
+            let start = at + p;
+            FoundTransaction {
+                number: 0,
+                share: Span::At(start, n),
+                store: counted,
+            }
+        }
     }
 }
 

@@ -67,14 +67,19 @@ enum-told c = search needs
 enum-known-found : tie.Need-enum-known-found
 enum-known-found c = search needs
 
-add-t27 : tie.Need-add-t27
-add-t27 c =
+add-start : tie.Need-add-start
+add-start c =
     let shared = c .before .before .before .before .before in
     let read = shared .before .before .before .before .before in
     let entry = read .before .before .before .before in
     let a = entry .args in
     let b = read .read-block .result in
-    omega (arith, entry .good .1 .0, row-within (a .k) (a .image .now) (a .used) (a .store) (a .offset) (a .index .now) (a .i) (read .read-block .ensures) (shared .before .before .before .if1 .left) (shared .share-in .ensures ∙ ap (λ (l : List ℕ). shareIn l (a .offset)) (part-is (a .image .now) (b .at) (b .len))) (c .before .found .given .1))
+    let within =
+    row-within (a .k) (a .image .now) (a .used) (a .store) (a .offset) (a .index .now) (a .i) (read .read-block .ensures)
+    (shared .before .before .before .if1 .left)
+    (shared .share-in .ensures ∙ ap (λ (l : List ℕ). shareIn l (a .offset)) (part-is (a .image .now) (b .at) (b .len)))
+    (c .before .found .given .1) in
+    omega (arith, entry .good .1 .0, within)
 
 returns-2 : tie.Need-returns-2
 returns-2 c =
@@ -82,9 +87,11 @@ returns-2 c =
     let read = shared .before .before .before .before .before in
     let a = read .before .before .before .before .args in
     let b = read .read-block .result in
-    row-answer (a .k) (a .image .now) (a .used) (a .store) (a .offset) (a .index .now) (a .i) (read .read-block .ensures) (shared .before .before .before .if1 .left)
+    row-answer (a .k) (a .image .now) (a .used) (a .store) (a .offset) (a .index .now) (a .i) (read .read-block .ensures)
+    (shared .before .before .before .if1 .left)
     (shared .share-in .ensures ∙ ap (λ (l : List ℕ). shareIn l (a .offset)) (part-is (a .image .now) (b .at) (b .len)))
-    (c .before .before .before .not-loaded .ensures) (c .before .before .count-loads .ensures) (placed-none (b .at) (c .enum-told .given .1))
+    (c .before .before .before .not-loaded .ensures) (c .before .before .count-loads .ensures)
+    (placed-none (b .at) (c .enum-told .given .1))
 
 returns-3 : tie.Need-returns-3
 returns-3 c =
@@ -92,9 +99,11 @@ returns-3 c =
     let read = shared .before .before .before .before .before in
     let a = read .before .before .before .before .args in
     let b = read .read-block .result in
-    row-answer (a .k) (a .image .now) (a .used) (a .store) (a .offset) (a .index .now) (a .i) (read .read-block .ensures) (shared .before .before .before .if1 .left)
+    row-answer (a .k) (a .image .now) (a .used) (a .store) (a .offset) (a .index .now) (a .i) (read .read-block .ensures)
+    (shared .before .before .before .if1 .left)
     (shared .share-in .ensures ∙ ap (λ (l : List ℕ). shareIn l (a .offset)) (part-is (a .image .now) (b .at) (b .len)))
-    (c .before .before .before .before .not-loaded .ensures) (c .before .before .before .count-loads .ensures) (placed-there (b .at) (c .before .found .given .1))
+    (c .before .before .before .before .not-loaded .ensures) (c .before .before .before .count-loads .ensures)
+    (placed-there (b .at) (c .before .found .given .1))
 
 pub read-share-spec : {M : Type 1} → statement M
 read-share-spec =
@@ -116,6 +125,6 @@ read-share-spec =
     count-loads-requires
     enum-told
     enum-known-found
-    add-t27
+    add-start
     returns-2
     returns-3)

@@ -1,7 +1,6 @@
 -- The bytes that an answer names are those of the Share with the offset among the block's statements, and it names none where the statement
 -- is no Share or is not there. Assumes nothing.
 use mathlib.Core.Path.{_≡_, refl, sym, ap, _∙_}
-use mathlib.Core.Bool.{Bool, true, false}
 use mathlib.Core.List.{List, [], _∷_}
 use mathlib.Core.Logic.{⊎-elim}
 use mathlib.Core.Option.{none, some}
@@ -9,7 +8,6 @@ use Prim.Native.Nat.{ℕ, zero, suc, _+_, _≤_, _<_}
 use native.Mathlib.Omega.{arith}
 use lib.ListN.{length, take, drop, getD}
 use lib.Seq.{drop-drop}
-use Rattle.laws.specs.Pick.{pick}
 use Rattle.laws.specs.Bytes.{bytesAt, AllBytes}
 use Rattle.laws.specs.Parse.{got, answer}
 use Rattle.laws.proofs.Tests.{leb-cases}
@@ -20,13 +18,14 @@ use Rattle.types.specs.declared.BlockReference.{BlockReference}
 use Rattle.types.specs.Records.{StatementValue, share, statement, BlockValue, block}
 use Rattle.blocks.specs.Answers.{statementBlock}
 use Rattle.blocks.proofs.Passes.{runs, block-statement-step}
+use Rattle.state.specs.declared.Span.{Span}
+use Rattle.state.specs.declared.Span.the-variants.{Nothing, At}
 use Rattle.store.specs.declared.BlockStore.{BlockStore}
 use Rattle.block_reader.specs.Reading as reading
 use Rattle.block_reader.specs.Reading.{blockAt}
 use Rattle.block_reader.proofs.Decoding.{Decoded, read-decodes}
-use Rattle.transaction.specs.declared.Share.{Share}
-use Rattle.transaction.specs.Transaction.{noShare, shareIn, placed, transactionOf, shareBytes, transactionIn, named}
-use Rattle.transaction.proofs.Shares.{given, next-lies, share-within}
+use Rattle.transaction.specs.Transaction.{shareIn, placed, transactionOf, shareBytes, transactionIn, named}
+use Rattle.transaction.proofs.Shares.{given, spanEnd, next-lies, share-within}
 
 -- ---- In a block's bytes
 
@@ -64,13 +63,10 @@ part-of-part : (s : List ℕ) (p n q m : ℕ) → q + m ≤ n → bytesAt (bytes
 unfolding bytesAt
 part-of-part s p n q m h = bytesAt-take (drop p s) n q m h ∙ ap (take m) (drop-drop q p s)
 
-named-placed : (s : List ℕ) (at n : ℕ) (t : Share) → t .at + t .len ≤ n → named s (placed at t) ≡ named (bytesAt s at n) t
-unfolding named placed noShare pick
-named-placed s at n t h = by (t .there) refl
-  where
-    by : (there : Bool) → t .there ≡ there → named s (placed at t) ≡ named (bytesAt s at n) t
-    by true is = rw is (ap (λ (l : List ℕ). some l) (sym (part-of-part s at n (t .at) (t .len) h)))
-    by false is = rw is
+named-placed : (s : List ℕ) (at n : ℕ) (t : Span) → spanEnd t ≤ n → named s (placed at t) ≡ named (bytesAt s at n) t
+unfolding named placed spanEnd
+named-placed s at n Nothing h = refl
+named-placed s at n (At p m) h = ap (λ (l : List ℕ). some l) (sym (part-of-part s at n p m h))
 
 -- what is answered for a row whose block was read: the block decodes at its place, with the reference that was read
 pub record Names (k : ℕ) (s : List ℕ) (used : ℕ) (store : BlockStore) (offset : ℕ) (row : List ℕ) (r : BlockReference) (at n : ℕ) : Type 0 where
@@ -83,8 +79,8 @@ pub transaction-named : (k : ℕ) (s : List ℕ) (used : ℕ) (store : BlockStor
 unfolding transactionOf
 transaction-named k s used store offset row all {r} {at} {n} is =
     let d : Decoded s r at n = read-decodes k s used (getD row 6 0) all is in
-    let t : Share = shareIn (bytesAt s at n) offset in
-    let lies : t .at + t .len ≤ n = omega (arith, share-within (bytesAt s at n) offset, length-bytesAt s at n (d .within)) in
+    let t : Span = shareIn (bytesAt s at n) offset in
+    let lies : spanEnd t ≤ n = omega (arith, share-within (bytesAt s at n) offset, length-bytesAt s at n (d .within)) in
     record {
       block = d;
       transaction = rw is (named-placed s at n t lies ∙ share-named (bytesAt s at n) (d .decodes) offset);

@@ -22,20 +22,21 @@ use Rattle.statements.specs.declared.StatementKind.{StatementKind}
 use Rattle.statements.specs.declared.StatementKind.the-variants as kind
 use Rattle.statements.specs.declared.NextStatement.{NextStatement}
 use Rattle.statements.specs.Answers.{statementOf, noNextStatement, nextStatementAnswer}
+use Rattle.state.specs.declared.Span.{Span}
+use Rattle.state.specs.declared.Span.the-variants.{Nothing, At}
 use Rattle.blocks.specs.declared.DecodedBlock.{DecodedBlock}
 use Rattle.blocks.specs.Answers.{statementBlock, noBlock, blockAnswer}
 use Rattle.blocks.proofs.Found.{block-bad}
-use Rattle.transaction.specs.declared.Share.{Share}
-use Rattle.transaction.specs.Transaction.{noShare, shareOf, shareIn, shareBytes, named}
+use Rattle.transaction.specs.Transaction.{shareOf, shareIn, shareBytes, named}
 use Rattle.transaction.proofs.Steps.{Stepping, stepping-next, stepping-none, stepping-end}
 
 -- ---- A step
 
 -- what the code answers for a statement of a kind, with its place and number
-abbrev pub shareOfKind : StatementKind → ℕ → ℕ → Share
-shareOfKind kind.Share at n = record { there = true; at = at; len = n }
-shareOfKind kind.Vote at n = noShare
-shareOfKind kind.VoteRange at n = noShare
+abbrev pub shareOfKind : StatementKind → ℕ → ℕ → Span
+shareOfKind kind.Share at n = At at n
+shareOfKind kind.Vote at n = Nothing
+shareOfKind kind.VoteRange at n = Nothing
 
 value-share : (v : StatementValue) (e : ℕ)
     → shareOfKind (statementOf v e .kind) (statementOf v e .start) (statementOf v e .count) ≡ shareOf (got v e)
@@ -53,7 +54,7 @@ module _ (c : Cursor) (x : Res StatementValue) {r : NextStatement} (is : r ≡ n
       let g = found-some noNextStatement _ (λ r. r .ok) refl (λ r. r .rest .at) (λ v e. refl) x is e in
       (g .0, g .1, ap (λ (r : NextStatement). r .rest) (g .2))
 
-  pub share-none : r .ok ≡ false → noShare ≡ shareOf x
+  pub share-none : r .ok ≡ false → Nothing ≡ shareOf x
   unfolding shareOf
   share-none e = sym (ap shareOf (no-statement e))
 
@@ -76,18 +77,18 @@ module _ (s : List ℕ) (offset : ℕ) where
       subst (λ (c : Cursor). Stepping statement s offset c₀ (i + 1) c) (sym (found .2)) (stepping-next statement s h more (found .1))
 
   module _ {d : DecodedBlock} (is : d ≡ blockAnswer 0 (block s 0)) where
-    pub undecoded : d .ok ≡ false → noShare ≡ shareIn s offset
+    pub undecoded : d .ok ≡ false → Nothing ≡ shareIn s offset
     unfolding shareIn answer
     undecoded e = sym (rw (block-bad 0 (block s 0) is e))
 
     decoded : d .ok ≡ true → shareOf (nextElement statement s (after statement s offset (d .block .statements))) ≡ shareIn s offset
     unfolding shareIn
     decoded e =
-        answered noBlock _ noShare _ (λ d. d .ok) refl
+        answered noBlock _ Nothing _ (λ d. d .ok) refl
         (λ (d : DecodedBlock). shareOf (nextElement statement s (after statement s offset (d .block .statements)))) (λ b e. refl) (block s 0) is e
 
     module _ (ok : d .ok ≡ true) {i : ℕ} {c : Cursor} (h : Stepping statement s offset (d .block .statements) i c) where
-      pub stopped : nextElement statement s c ≡ bad → noShare ≡ shareIn s offset
+      pub stopped : nextElement statement s c ≡ bad → Nothing ≡ shareIn s offset
       unfolding shareOf
       stopped b = ap shareOf (sym (stepping-none statement s h b)) ∙ decoded ok
 
@@ -101,26 +102,31 @@ unfoldable pub given : Res StatementValue → Option (List ℕ)
 given bad = none
 given (got v e) = shareBytes v
 
+-- where the bytes that it names end
+unfoldable pub spanEnd : Span → ℕ
+spanEnd Nothing = 0
+spanEnd (At p n) = p + n
+
 -- a Share that was found lies in s, and its bytes are there
 pub record Lies (s : List ℕ) (x : Res StatementValue) : Type 0 where
-  pub within : shareOf x .at + shareOf x .len ≤ length s
+  pub within : spanEnd (shareOf x) ≤ length s
   pub names : named s (shareOf x) ≡ given x
 
 module _ (s : List ℕ) where
   lies-bad : Lies s bad
-  unfolding shareOf noShare named given pick
+  unfolding shareOf named given spanEnd
   lies-bad = record { within = omega arith; names = refl }
 
   lies-vote : (l : TransactionLocator) (v : VoteValue) (e : ℕ) → Lies s (got (voteOn l v) e)
-  unfolding shareOf noShare named given shareBytes pick
+  unfolding shareOf named given shareBytes spanEnd
   lies-vote l v e = record { within = omega arith; names = refl }
 
   lies-range : (r : TransactionLocatorRange) (e : ℕ) → Lies s (got (voteRange r) e)
-  unfolding shareOf noShare named given shareBytes pick
+  unfolding shareOf named given shareBytes spanEnd
   lies-range r e = record { within = omega arith; names = refl }
 
   lies-share : (p : ℕ) (bytes : List ℕ) (e : ℕ) → byteString s p ≡ got bytes e → Lies s (got (share bytes) e)
-  unfolding shareOf named given shareBytes pick
+  unfolding shareOf named given shareBytes spanEnd
   lies-share p bytes e is =
       let found = bytes-found s p is in
       let at : e - length bytes ≡ p + 8 = omega (arith, found .end) in
@@ -151,12 +157,14 @@ module _ (s : List ℕ) where
   unfolding nextElement
   next-lies c = lies-pick (eqb (c .left) 0) lies-bad (statement-lies (c .at))
 
-  pub share-within : (offset : ℕ) → shareIn s offset .at + shareIn s offset .len ≤ length s
-  unfolding shareIn answer noShare
+  pub share-within : (offset : ℕ) → spanEnd (shareIn s offset) ≤ length s
+  unfolding shareIn answer spanEnd
   share-within offset = by (block s 0)
     where
       by : (x : Res BlockValue)
-          → answer noShare (λ (b : BlockValue) e. shareOf (nextElement statement s (after statement s offset (statementBlock 0 b .statements)))) x .at
-          + answer noShare (λ (b : BlockValue) e. shareOf (nextElement statement s (after statement s offset (statementBlock 0 b .statements)))) x .len ≤ length s
+          → spanEnd
+          (answer Nothing
+          (λ (b : BlockValue) e. shareOf (nextElement statement s (after statement s offset (statementBlock 0 b .statements)))) x)
+          ≤ length s
       by bad = omega arith
       by (got b e) = next-lies (after statement s offset (statementBlock 0 b .statements)) .within

@@ -1,6 +1,5 @@
 -- The transaction of a row and of a call, by what the code found. Assumes nothing.
 use mathlib.Core.Path.{_≡_, sym, ap, ap₂, _∙_}
-use mathlib.Core.Bool.{true, false}
 use mathlib.Core.List.{List, [], _∷_}
 use Prim.Native.Nat.{ℕ, _+_, _*_, _≤_}
 use native.Mathlib.Nat.{add-zero}
@@ -16,6 +15,8 @@ use Rattle.rows.specs.declared.Place.the-variants.{At}
 use Rattle.rows.specs.Rows.{rowsOf, rowAt, Ascending, placeOf}
 use Rattle.rows.proofs.Rows.{rowsFrom-none, rowsFrom-cons}
 use Rattle.index.specs.Keys.{keyWords}
+use Rattle.state.specs.declared.Span.{Span}
+use Rattle.state.specs.declared.Span.the-variants as span
 use Rattle.store.specs.declared.BlockStore.{BlockStore}
 use Rattle.block_reader.specs.declared.ReadBlock.{ReadBlock}
 use Rattle.block_reader.specs.Reading.{blockAt, readOf}
@@ -28,21 +29,20 @@ use Rattle.filters.proofs.Keeping.{chosen-every, between-rows, length-between}
 use Rattle.block_reader.proofs.Reading.{blockAt-numbered, told-refused}
 use Rattle.query.proofs.Collecting.{one-unloaded}
 use Rattle.filters.proofs.Queries.{at-reference}
-use Rattle.transaction.specs.declared.Share.{Share}
-use Rattle.transaction.specs.declared.Transaction.{Transaction}
-use Rattle.transaction.specs.Transaction.{noShare, shareIn, placed, refusedAnswer, transactionOf, transactionAnswer}
-use Rattle.transaction.proofs.Shares.{share-within}
+use Rattle.transaction.specs.declared.FoundTransaction.{FoundTransaction}
+use Rattle.transaction.specs.Transaction.{shareIn, placed, refusedAnswer, transactionOf, transactionAnswer}
+use Rattle.transaction.proofs.Shares.{spanEnd, share-within}
 use Rattle.block_reader.proofs.Blocks.{block-got, block-within}
 
 -- ---- A Share behind the block's place
 
-module _ (at : ℕ) (t : Share) where
-  pub placed-none : t .there ≡ false → noShare ≡ placed at t
-  unfolding placed pick
+module _ (at : ℕ) {t : Span} where
+  pub placed-none : t ≡ span.Nothing → span.Nothing ≡ placed at t
+  unfolding placed
   placed-none e = sym (rw e)
 
-  pub placed-there : t .there ≡ true → record { there = true; at = at + t .at; len = t .len } ≡ placed at t
-  unfolding placed pick
+  pub placed-there : {p n : ℕ} → t ≡ span.At p n → span.At (at + p) n ≡ placed at t
+  unfolding placed
   placed-there e = sym (rw e)
 
 -- ---- The transaction of a row
@@ -76,19 +76,23 @@ module _ (k : ℕ) (s : List ℕ) (used : ℕ) (store : BlockStore) (offset : �
       (ap (blockAt k s used) position
       ∙ told-refused (blockAt k s used (getD w (8 * i + 6) 0)) (blockAt-numbered k s used (getD w (8 * i + 6) 0)) is found)
 
-  module _ (none : b .number ≡ 0) {t : Share} (share-is : t ≡ shareIn (bytesAt s (b .at) (b .len)) offset) where
+  module _ (none : b .number ≡ 0) {t : Span} (share-is : t ≡ shareIn (bytesAt s (b .at) (b .len)) offset) where
     -- the Share lies in the image
-    pub row-within : b .at + t .at ≤ length s
-    row-within =
+    pub row-within : {p n : ℕ} → t ≡ span.At p n → b .at + p ≤ length s
+    unfolding spanEnd
+    row-within {p} {n} there =
         let within : b .at + b .len ≤ length s = block-within k s used (getD w (8 * i + 6) 0) is none in
-        omega (arith, ap (λ (t : Share). t .at) share-is, share-within (bytesAt s (b .at) (b .len)) offset, length-bytesAt s (b .at) (b .len) within)
+        let end : p + n ≡ spanEnd (shareIn (bytesAt s (b .at) (b .len)) offset) = ap spanEnd (sym there ∙ share-is) in
+        omega (arith, end, share-within (bytesAt s (b .at) (b .len)) offset, length-bytesAt s (b .at) (b .len) within)
 
     pub row-answer : {n : ℕ} {u : BlockStore} → n ≡ pick (eqb (getD w (8 * i + 7) 0) 0) 1 0 → u ≡ counted store n
-        → {x : Share} → x ≡ placed (b .at) t → _≡_ {A = Transaction} (record { number = 0; share = x; store = u }) (transactionOf k s used store offset (rowAt w i ∷ []))
+        → {x : Span} → x ≡ placed (b .at) t
+        → _≡_ {A = FoundTransaction} (record { number = 0; share = x; store = u }) (transactionOf k s used store offset (rowAt w i ∷ []))
     row-answer {n} {u} loads store-is {x} share-at =
         let load : n ≡ unloaded (rowAt w i ∷ []) =
         loads ∙ ap (λ (x : ℕ). pick (eqb x 0) 1 0) (sym (word-rowAt w i 7 (lit< tt))) ∙ sym (one-load (rowAt w i)) in
-        ap₂ (λ (x : Share) (u : BlockStore). record { number = 0; share = x; store = u }) (share-at ∙ ap (placed (b .at)) share-is) (store-is ∙ ap (counted store) load)
+        ap₂ (λ (x : Span) (u : BlockStore). record { number = 0; share = x; store = u })
+        (share-at ∙ ap (placed (b .at)) share-is) (store-is ∙ ap (counted store) load)
         ∙ of-got k s used store offset (rowAt w i) (ap (blockAt k s used) position ∙ block-got k s used (getD w (8 * i + 6) 0) is none)
 
 -- ---- The row of a reference

@@ -12,38 +12,26 @@ ghost use Rattle.rows.specs.Rows.{rowAt};
 ghost use Rattle.transaction.specs.Transaction.{shareOf, shareIn, refusedAnswer, transactionOf, getTransaction};
 use bincode::Cursor;
 use rows::Place;
+use state::Span;
 use statements::StatementKind;
 use store::BlockStore;
 use types::TransactionLocator;
 use wal_position::WalPosition;
 
-// The place and the number of a Share's bytes. Zero where there is none.
-pub struct Share {
-    pub there: bool,
-    pub at: usize,
-    pub len: usize,
-}
-
 // A refusal's number, or 0 and the transaction, if there is one; and the store with the load counted.
-pub struct Transaction {
+pub struct FoundTransaction {
     pub number: u8,
-    pub share: Share,
+    pub share: Span,
     pub store: BlockStore,
 }
 
-const NO_SHARE: Share = Share {
-    there: false,
-    at: 0,
-    len: 0,
-};
-
-// The Share with this offset among a block's statements.
-pub fn share_in(block: &[u8], offset: u64) -> Share
+// The bytes of the Share with this offset among a block's statements.
+pub fn share_in(block: &[u8], offset: u64) -> Span
     ensures { λ r. ⌜ r ≡ shareIn (now (block .entry)) offset ⌝ }
 {
     let d = blocks::decode_block(block, 0);
     if !d.ok {
-        return NO_SHARE;
+        return Span::Nothing;
     }
     let b = d.block;
     let mut c = b.statements;
@@ -51,7 +39,7 @@ pub fn share_in(block: &[u8], offset: u64) -> Share
     while i < offset {
         let s = statements::next_statement(block, c);
         if !s.ok {
-            return NO_SHARE;
+            return Span::Nothing;
         }
         c = s.rest;
         i += 1;
@@ -59,33 +47,29 @@ pub fn share_in(block: &[u8], offset: u64) -> Share
     share_at(block, c)
 }
 
-// The Share at a cursor's place.
-fn share_at(block: &[u8], c: Cursor) -> Share
+// The bytes of the Share at a cursor's place.
+fn share_at(block: &[u8], c: Cursor) -> Span
     ensures { λ r. ⌜ r ≡ shareOf (nextElement statement (now (block .entry)) c) ⌝ }
 {
     let s = statements::next_statement(block, c);
     if !s.ok {
-        return NO_SHARE;
+        return Span::Nothing;
     }
     let t = s.statement;
     let kind = t.kind;
     match kind {
-        StatementKind::Share => Share {
-            there: true,
-            at: t.start,
-            len: t.count,
-        },
-        StatementKind::Vote => NO_SHARE,
-        StatementKind::VoteRange => NO_SHARE,
+        StatementKind::Share => Span::At(t.start, t.count),
+        StatementKind::Vote => Span::Nothing,
+        StatementKind::VoteRange => Span::Nothing,
     }
 }
 
-fn refuse(number: u8, store: BlockStore) -> Transaction
+fn refuse(number: u8, store: BlockStore) -> FoundTransaction
     ensures { λ r. ⌜ r ≡ refusedAnswer number store ⌝ }
 {
-    Transaction {
+    FoundTransaction {
         number,
-        share: NO_SHARE,
+        share: Span::Nothing,
         store,
     }
 }
@@ -100,7 +84,7 @@ fn read_share(
     index: &[u64],
     i: usize,
     offset: u64,
-) -> Transaction
+) -> FoundTransaction
     requires { ⌜ 8 * i + 8 ≤ length (now index) ⌝ }
     ensures { λ r. ⌜ r ≡ transactionOf k (now (image .entry)) used store offset (rowAt (now (index .entry)) i ∷ []) ⌝ }
 {
@@ -112,21 +96,20 @@ fn read_share(
     let end = at + b.len;
     let found = share_in(&image[at..end], offset);
     let counted = query::count_loads(store, filters::not_loaded(index, i));
-    if !found.there {
-        return Transaction {
+    match found {
+        Span::Nothing => FoundTransaction {
             number: 0,
-            share: NO_SHARE,
+            share: Span::Nothing,
             store: counted,
-        };
-    }
-    Transaction {
-        number: 0,
-        share: Share {
-            there: true,
-            at: at + found.at,
-            len: found.len,
         },
-        store: counted,
+        Span::At(p, n) => {
+            let start = at + p;
+            FoundTransaction {
+                number: 0,
+                share: Span::At(start, n),
+                store: counted,
+            }
+        }
     }
 }
 
@@ -138,7 +121,7 @@ pub fn get_transaction(
     store: BlockStore,
     index: &[u64],
     locator: TransactionLocator,
-) -> Transaction
+) -> FoundTransaction
     ensures { λ r. ⌜ r ≡ getTransaction k (now (image .entry)) used store (now (index .entry)) locator ⌝ }
 {
     let number = store::check_call(k, image, used, store, index);
@@ -149,9 +132,9 @@ pub fn get_transaction(
     let found = rows::find(index, store.rows, index::key_of(reference));
     match found {
         Place::At(i) => read_share(k, image, used, store, index, i, locator.offset),
-        Place::Gap(_) => Transaction {
+        Place::Gap(_) => FoundTransaction {
             number: 0,
-            share: NO_SHARE,
+            share: Span::Nothing,
             store,
         },
     }

@@ -10,7 +10,7 @@ use Rattle.store.proofs.Checked.{Checked}
 use Rattle.filters.specs.Filters.{byReference}
 use Rattle.query.proofs.Answering.{passed-call, checked-call}
 use Rattle.filters.proofs.Queries.{no-reference}
-use Rattle.transaction.specs.Transaction.{noShare, transactionOf}
+use Rattle.transaction.specs.Transaction.{transactionOf}
 use Rattle.transaction.proofs.Transactions.{row-fits, row-reference, call-refused, call-passed}
 use Rattle.transaction.proofs.get_transaction.Statement.{statement}
 use Rattle.transaction.proofs.get_transaction.Tie as tie
@@ -61,7 +61,7 @@ returns-2 c =
     (row-reference (a .index .now) (a .store .rows) (h .fits) (h .ascends) (a .locator .block) (sym (c .before .before .found .given .1) ∙ c .before .before .before .before .find .ensures ∙ ap (λ (k : List ℕ). placeOf k (rowsOf (a .store .rows) (a .index .now))) (c .before .before .before .before .before .key-of .ensures)))
 
 returns-3 : tie.Need-returns-3
-unfolding indexed transactionOf noShare
+unfolding indexed transactionOf
 returns-3 c =
     let passed = c .before .before .before .before .before in
     let a = passed .before .before .before .before .args in

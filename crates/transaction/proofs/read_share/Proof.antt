@@ -5,9 +5,8 @@ use Prim.Native.Nat.{ℕ, _+_, _*_}
 use native.Mathlib.Omega.{arith}
 use lib.ListN.{getD}
 use borrow.Author.Needs.{needs}
-use borrow.Author.Tests.{not-true, not-false}
 use Rattle.laws.proofs.Parts.{part-is}
-use Rattle.transaction.specs.Transaction.{noShare, shareIn}
+use Rattle.transaction.specs.Transaction.{shareIn}
 use Rattle.block_reader.proofs.Blocks.{block-within}
 use Rattle.transaction.proofs.Transactions.{placed-none, placed-there, row-refused, row-within, row-answer}
 use Rattle.transaction.proofs.read_share.Statement.{statement}
@@ -62,25 +61,37 @@ not-loaded-requires c κs = search needs
 count-loads-requires : tie.Need-count-loads-requires
 count-loads-requires c κs = search needs
 
-returns-2 : tie.Need-returns-2
-unfolding noShare
-returns-2 c =
-    let shared = c .before .before .before .before in
-    let read = shared .before .before .before .before .before in
-    let a = read .before .before .before .before .args in
-    let b = read .read-block .result in
-    row-answer (a .k) (a .image .now) (a .used) (a .store) (a .offset) (a .index .now) (a .i) (read .read-block .ensures) (shared .before .before .before .if1 .left)
-    (shared .share-in .ensures ∙ ap (λ (l : List ℕ). shareIn l (a .offset)) (part-is (a .image .now) (b .at) (b .len)))
-    (c .before .before .before .not-loaded .ensures) (c .before .before .count-loads .ensures) (placed-none (b .at) (shared .share-in .result) (not-true _ (c .if2 .taken)))
+enum-told : tie.Need-enum-told
+enum-told c = search needs
 
-add-t14 : tie.Need-add-t14
-add-t14 c =
+enum-known-found : tie.Need-enum-known-found
+enum-known-found c = search needs
+
+add-start : tie.Need-add-start
+add-start c =
     let shared = c .before .before .before .before .before in
     let read = shared .before .before .before .before .before in
     let entry = read .before .before .before .before in
     let a = entry .args in
     let b = read .read-block .result in
-    omega (arith, entry .good .1 .0, row-within (a .k) (a .image .now) (a .used) (a .store) (a .offset) (a .index .now) (a .i) (read .read-block .ensures) (shared .before .before .before .if1 .left) (shared .share-in .ensures ∙ ap (λ (l : List ℕ). shareIn l (a .offset)) (part-is (a .image .now) (b .at) (b .len))))
+    let within =
+    row-within (a .k) (a .image .now) (a .used) (a .store) (a .offset) (a .index .now) (a .i) (read .read-block .ensures)
+    (shared .before .before .before .if1 .left)
+    (shared .share-in .ensures ∙ ap (λ (l : List ℕ). shareIn l (a .offset)) (part-is (a .image .now) (b .at) (b .len)))
+    (c .before .found .given .1) in
+    omega (arith, entry .good .1 .0, within)
+
+returns-2 : tie.Need-returns-2
+returns-2 c =
+    let shared = c .before .before .before .before in
+    let read = shared .before .before .before .before .before in
+    let a = read .before .before .before .before .args in
+    let b = read .read-block .result in
+    row-answer (a .k) (a .image .now) (a .used) (a .store) (a .offset) (a .index .now) (a .i) (read .read-block .ensures)
+    (shared .before .before .before .if1 .left)
+    (shared .share-in .ensures ∙ ap (λ (l : List ℕ). shareIn l (a .offset)) (part-is (a .image .now) (b .at) (b .len)))
+    (c .before .before .before .not-loaded .ensures) (c .before .before .count-loads .ensures)
+    (placed-none (b .at) (c .enum-told .given .1))
 
 returns-3 : tie.Need-returns-3
 returns-3 c =
@@ -88,9 +99,11 @@ returns-3 c =
     let read = shared .before .before .before .before .before in
     let a = read .before .before .before .before .args in
     let b = read .read-block .result in
-    row-answer (a .k) (a .image .now) (a .used) (a .store) (a .offset) (a .index .now) (a .i) (read .read-block .ensures) (shared .before .before .before .if1 .left)
+    row-answer (a .k) (a .image .now) (a .used) (a .store) (a .offset) (a .index .now) (a .i) (read .read-block .ensures)
+    (shared .before .before .before .if1 .left)
     (shared .share-in .ensures ∙ ap (λ (l : List ℕ). shareIn l (a .offset)) (part-is (a .image .now) (b .at) (b .len)))
-    (c .before .before .before .before .not-loaded .ensures) (c .before .before .before .count-loads .ensures) (placed-there (b .at) (shared .share-in .result) (not-false _ (c .before .if2 .left)))
+    (c .before .before .before .before .not-loaded .ensures) (c .before .before .before .count-loads .ensures)
+    (placed-there (b .at) (c .before .found .given .1))
 
 pub read-share-spec : {M : Type 1} → statement M
 read-share-spec =
@@ -110,6 +123,8 @@ read-share-spec =
     share-in-requires
     not-loaded-requires
     count-loads-requires
+    enum-told
+    enum-known-found
+    add-start
     returns-2
-    add-t14
     returns-3)

@@ -3,7 +3,6 @@ use borrow.Author.Tests.{not-true, not-false}
 use borrow.Author.Needs.{needs}
 use Rattle.bincode.specs.Cursors.{nextElement}
 use Rattle.types.specs.Records as records
-use Rattle.transaction.specs.Transaction.{noShare}
 use Rattle.transaction.proofs.Shares.{share-none, share-kind}
 use Rattle.transaction.proofs.share_at.Statement.{statement}
 use Rattle.transaction.proofs.share_at.Tie as tie
@@ -12,7 +11,6 @@ next-statement-requires : tie.Need-next-statement-requires
 next-statement-requires c κs = search needs
 
 returns : tie.Need-returns
-unfolding noShare
 returns c =
     let a = c .before .before .before .before .args in
     share-none (a .c) (nextElement records.statement (a .block .now) (a .c)) (c .before .before .next-statement .ensures) (not-true _ (c .if1 .taken))
@@ -27,19 +25,16 @@ enum-told-3 : tie.Need-enum-told-3
 enum-told-3 c = search needs
 
 returns-2 : tie.Need-returns-2
-unfolding noShare
 returns-2 c =
     let a = c .before .before .before .before .before .before .before .args in
     share-kind (a .c) (nextElement records.statement (a .block .now) (a .c)) (c .before .before .before .before .before .next-statement .ensures) (not-false _ (c .before .before .before .if1 .left)) (c .enum-told .given .1)
 
 returns-3 : tie.Need-returns-3
-unfolding noShare
 returns-3 c =
     let a = c .before .before .before .before .before .before .before .args in
     share-kind (a .c) (nextElement records.statement (a .block .now) (a .c)) (c .before .before .before .before .before .next-statement .ensures) (not-false _ (c .before .before .before .if1 .left)) (c .enum-told2 .given .1)
 
 returns-4 : tie.Need-returns-4
-unfolding noShare
 returns-4 c =
     let a = c .before .before .before .before .before .before .before .args in
     share-kind (a .c) (nextElement records.statement (a .block .now) (a .c)) (c .before .before .before .before .before .next-statement .ensures) (not-false _ (c .before .before .before .if1 .left)) (c .enum-told3 .given .1)

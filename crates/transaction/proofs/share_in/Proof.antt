@@ -6,7 +6,6 @@ use borrow.Author.Needs.{needs}
 use borrow.Author.Tests.{not-true, not-false}
 use Rattle.bincode.specs.Cursors.{nextElement}
 use Rattle.types.specs.Records as records
-use Rattle.transaction.specs.Transaction.{noShare}
 use Rattle.transaction.proofs.Steps.{Stepping, stepping-start}
 use Rattle.transaction.proofs.Shares.{no-statement, undecoded, stepped, stopped, reached}
 use Rattle.transaction.proofs.share_in.Statement.{statement}
@@ -22,7 +21,6 @@ decode-block-requires : tie.Need-decode-block-requires Inv-loop μ-loop
 decode-block-requires c κs = search needs
 
 returns : tie.Need-returns Inv-loop μ-loop
-unfolding noShare
 returns c =
     let a = c .before .before .before .before .args in
     undecoded (a .block .now) (a .offset) (c .before .before .decode-block .ensures) (not-true _ (c .if1 .taken))
@@ -36,7 +34,6 @@ next-statement-requires : tie.Need-next-statement-requires Inv-loop μ-loop
 next-statement-requires c κs = search needs
 
 returns-2 : tie.Need-returns-2 Inv-loop μ-loop
-unfolding noShare
 returns-2 c =
     let looped = c .before .before .before .before in
     let decoded = looped .before .before .before .before .before in

@@ -21,13 +21,19 @@ use Rattle.index.specs.declared.StoreSummary.{StoreSummary}
 use Rattle.wal.specs.declared.Walked.{Walked}
 use Rattle.wal.specs.declared.Walked.the-variants.{Stopped, Refused}
 use Rattle.wal.specs.Answers.{walkedNumber}
+use Rattle.wal_position.specs.Checks.{unless}
+use Rattle.wal_position.proofs.Checks.{unless-passed}
+use Rattle.wal_writer.specs.declared.WalWriter.{WalWriter}
+use Rattle.committee.specs.Committee.{committeeCheck}
 use Rattle.replay.specs.Recovery.{Recovery}
 use Rattle.replay_log.specs.Answers.{recoveredOf}
 use Rattle.recovered.specs.declared.Recovered.{Recovered}
+use Rattle.recovered.specs.declared.Resumed.the-variants.{Writer}
+use Rattle.recovered.specs.Answers.{writerBehind, resumedOf}
 use Rattle.store.specs.Store.{openNumber, openedOf}
 use Rattle.store.specs.declared.BlockStore.{BlockStore}
 use Rattle.node_words.specs.Words.{flag, walkedWords, spanWords, foundWords, headWords, summaryWords, recoveredWords}
-use Rattle.node_store.specs.Stores.{storeWords, wordsAt, be, flagged, digestAt, referenceAt, referenceOf, summaryIn, storeOf, openedWords, openedNumber}
+use Rattle.node_store.specs.Stores.{storeWords, wordsAt, be, flagged, digestAt, referenceAt, referenceOf, summaryIn, storeOf, recoveryNumber, resumedUsed, openedWords, openedNumber}
 use Rattle.node_store.proofs.Stores.{length-be}
 use Rattle.node_words.proofs.Words.{long-walked, long-head, long-span, long-found}
 use Rattle.node_words.proofs.Long.{summary-long, rounds-long}
@@ -208,11 +214,28 @@ pub opened-store : (size own : ℕ) (r : Recovered) → length (r .replay .block
 unfolding openedWords openedOf storeWords
 opened-store size own r rounds = λ i. size ∷ own ∷ index-there r i ∷ 0 ∷ summary-there r rounds i
 
--- the number of `kadzhomir_open` after `kadzhomir_recover` is that of `BlockStore::open`
-pub opened-number : (size own : ℕ) (r : Recovered) → walkedNumber (r .walked) ≤ 19
-    → openedNumber size own (recoveredWords r) ≡ openNumber (r .walked) size own
-unfolding openedNumber openNumber pick
-opened-number size own r h = rw (number-there r, le-leb (walkedNumber (r .walked)) 19 h)
+-- what `kadzhomir_open` and `kadzhomir_writer` make of the words is what `BlockStore::open` and `Recovered::writer` make of the answer
+module _ (r : Recovered) (h : walkedNumber (r .walked) ≤ 19) where
+  number-told : recoveryNumber (recoveredWords r) ≡ walkedNumber (r .walked)
+  unfolding recoveryNumber pick
+  number-told = rw (number-there r, le-leb (walkedNumber (r .walked)) 19 h)
+
+  pub opened-number : (size own : ℕ) → openedNumber size own (recoveredWords r) ≡ openNumber (r .walked) size own
+  unfolding openedNumber openNumber
+  opened-number size own = ap (λ (n : ℕ). unless n (λ m. m) (committeeCheck size own)) number-told
+
+  pub resumed-used : (k used : ℕ) {w : WalWriter} → resumedOf k r ≡ Writer w → resumedUsed (recoveredWords r) used ≡ w .used
+  unfolding resumedUsed recoveredWords headWords walkedWords walkedNumber writerBehind
+  resumed-used k used {w} is =
+      ap (λ (n : ℕ). unless n (λ m. used) (getD (recoveredWords r) 3 0)) number-told
+      ∙ by (r .walked) _ _ is
+    where
+      by : (v : Walked) (counts rest : List ℕ) → writerBehind k v ≡ Writer w
+          → unless (walkedNumber v) (λ m. used) (getD ((walkedWords v ++ counts) ++ rest) 3 0) ≡ w .used
+      by (Stopped v e unread) counts rest is =
+          let same : record { exponent = k; used = e .0 } ≡ w = cc in
+          unless-passed (λ (m : ℕ). used) (e .0) 0 refl ∙ ap (λ (x : WalWriter). x .used) same
+      by (Refused n p) counts rest is = absurd (let z : _≡_ {A = ℕ} 0 1 = cc in omega arith)
 
 -- `kadzhomir_open` after `kadzhomir_recover`
 pub opened-recovered : (size used own : ℕ) (x : Recovery)

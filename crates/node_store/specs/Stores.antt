@@ -68,15 +68,23 @@ storeOf w =
 unfoldable pub storeAfter : ℕ → List ℕ → BlockStore → List ℕ
 storeAfter n w s = unless n (λ m. w) (storeWords s)
 
--- ---- Opening
+-- ---- What a recovery's answer leaves
+
+-- The number in its words. A word above 19 is no number of a refusal, and comes from no recovery: 18.
+unfoldable pub recoveryNumber : List ℕ → ℕ
+recoveryNumber v = pick (leb (getD v 0 0) 19) (getD v 0 0) 18
+
+-- "Appending again starts with used E": word 3. A refused recovery leaves `used` as it is.
+unfoldable pub resumedUsed : List ℕ → ℕ → ℕ
+resumedUsed v used = unless (recoveryNumber v) (λ m. used) (getD v 3 0)
 
 -- of the store that a recovery with the answer v leaves: the index rows counted are word 8, and the summary begins at word 25
 unfoldable pub openedWords : ℕ → ℕ → List ℕ → List ℕ
 openedWords size own v = size ∷ own ∷ getD v 8 0 ∷ 0 ∷ wordsAt v 25 136
 
--- The number of `openNumber`, by the words of a recovery's answer. A word above 19 is no number of a refusal: 18.
+-- that of the recovery, then 18 for the committee
 unfoldable pub openedNumber : ℕ → ℕ → List ℕ → ℕ
-openedNumber size own v = pick (leb (getD v 0 0) 19) (unless (getD v 0 0) (λ n. n) (committeeCheck size own)) 18
+openedNumber size own v = unless (recoveryNumber v) (λ n. n) (committeeCheck size own)
 
 -- "a refused .. changes nothing": w are the words of the store before the call
 unfoldable pub openedAfter : ℕ → ℕ → List ℕ → List ℕ → List ℕ

@@ -5,7 +5,7 @@ ghost use Prim.Native.Nat.{_+_, _≤_};
 ghost use lib.ListN.{getD};
 ghost use Rattle.laws.specs.Bytes.{written};
 ghost use Rattle.text.specs.Clipped.{clipped};
-ghost use Rattle.node_store.specs.Stores.{be, wordsAt, digestAt, referenceAt, summaryIn, storeOf, storeWords, storeAfter, openedNumber, openedWords, openedAfter};
+ghost use Rattle.node_store.specs.Stores.{be, wordsAt, digestAt, referenceAt, summaryIn, storeOf, storeWords, storeAfter, recoveryNumber, resumedUsed, openedNumber, openedWords, openedAfter};
 use crypto::BlockDigest;
 use index::FoundReference;
 use index::StoreSummary;
@@ -139,19 +139,40 @@ pub fn keep_store(out: &mut [u64; 140], number: u8, s: BlockStore)
     put_store(out, s);
 }
 
-// The recovery's number, then the committee's: 0, or the refusal's number. A word that is no number of a
-// refusal comes from no recovery, and is refused with 18.
-fn open_number(size: u64, own: u64, recovered: &[u64; 161]) -> u8
-    ensures { λ r. ⌜ r ≡ openedNumber size own (now (recovered .entry)) ⌝ }
+// The number in the words of a recovery's answer. A word that is no number of a refusal comes from no
+// recovery, and is refused with 18.
+fn recovery_number(recovered: &[u64; 161]) -> u8
+    ensures { λ r. ⌜ r ≡ recoveryNumber (now (recovered .entry)) ⌝ }
 {
     let number = recovered[0];
     if 19 < number {
         return 18;
     }
+    number as u8
+}
+
+// The recovery's number, then the committee's: 0, or the refusal's number.
+fn open_number(size: u64, own: u64, recovered: &[u64; 161]) -> u8
+    ensures { λ r. ⌜ r ≡ openedNumber size own (now (recovered .entry)) ⌝ }
+{
+    let number = recovery_number(recovered);
     if number != 0 {
-        return number as u8;
+        return number;
     }
     committee::check_committee(size, own)
+}
+
+// Stores E, where the writer goes on; a refused recovery leaves `used` as it is.
+pub fn resume(recovered: &[u64; 161], used: &mut u64) -> u8
+    ensures { λ r. ⌜ (r ≡ recoveryNumber (now (recovered .entry)))
+        × (now (used .exit) ≡ resumedUsed (now (recovered .entry)) (now (used .entry))) ⌝ }
+{
+    let number = recovery_number(recovered);
+    if number != 0 {
+        return number;
+    }
+    *used = recovered[3];
+    0
 }
 
 // Puts the store that a recovery leaves, whose answer's words are `recovered`; a refusal leaves the words

@@ -1,4 +1,5 @@
--- Where the rows that a lookup asks for stand in the index: between two places, of an author or of all, up to a limit.
+-- For the proofs alone; no promise is stated with it. Where the rows that a lookup asks for stand in the index: between two places, of an
+-- author or of all, up to a limit.
 use mathlib.Core.Bool.{Bool, true}
 use mathlib.Core.List.{List, [], _∷_}
 use Prim.Native.Nat.{ℕ, zero, suc}

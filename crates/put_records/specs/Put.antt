@@ -1,4 +1,4 @@
--- What a store of a record into a buffer does.
+-- For the proofs alone; no promise is stated with it. What a store of a record into a buffer does.
 use mathlib.Core.Path.{_≡_}
 use mathlib.Core.List.{List}
 use Prim.Native.Nat.{ℕ, _+_}

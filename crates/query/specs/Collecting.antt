@@ -1,4 +1,5 @@
--- What the loop over index rows comes to: it reads the blocks of the rows that it chooses, and counts them.
+-- For the proofs alone; no promise is stated with it. What the loop over index rows comes to: it reads the blocks of the rows that it
+-- chooses, and counts them.
 use mathlib.Core.Path.{_≡_}
 use mathlib.Core.List.{List}
 use Prim.Native.Nat.{ℕ, _*_, _/_, _≤_, _<_}

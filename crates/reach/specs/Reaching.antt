@@ -1,4 +1,5 @@
--- What the search comes to, a round at a time: which blocks of a round are reached, by the includes of those reached in the round above.
+-- For the proofs alone; no promise is stated with it. What the search comes to, a round at a time: which blocks of a round are reached,
+-- by the includes of those reached in the round above.
 use mathlib.Core.Path.{_≡_}
 use mathlib.Core.Bool.{Bool, false}
 use mathlib.Core.List.{List, [], _∷_}

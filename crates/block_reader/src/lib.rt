@@ -6,7 +6,7 @@
 ghost use mathlib.Core.Path.{_≡_};
 ghost use Prim.Native.Nat.{_+_, _^_, _≤_, _<_};
 ghost use lib.ListN.{length};
-ghost use Rattle.laws.specs.Bytes.{bytesAt};
+ghost use Rattle.wal_reader.specs.Answers.{entryNamed};
 ghost use Rattle.block_reader.specs.Reading.{plainBlock, ownBlockAt, blockIn, blockAt, readOf};
 ghost use Rattle.block_reader.specs.Reading as reading;
 use types::BlockReference;
@@ -35,8 +35,9 @@ fn no_block(number: u8) -> ReadBlock
 
 // The block of an entry that lies in the image.
 fn block_of(image: &[u8], entry: WalEntry) -> ReadBlock
-    requires { ⌜ (entry .position .0 + 16 + entry .len ≤ length (now image)) × (entry .position .0 + 16 + entry .len ≤ 2 ^ 40) ⌝ }
-    ensures { λ r. ⌜ r ≡ readOf (blockIn (record { start = entry .position .0; tag = entry .tag; payload = bytesAt (now (image .entry)) (entry .position .0 + 16) (entry .len) })) ⌝ }
+    requires { ⌜ (entry .position .0 + 16 + entry .len ≤ length (now image))
+        × (entry .position .0 + 16 + entry .len ≤ 2 ^ 40) ⌝ }
+    ensures { λ r. ⌜ r ≡ readOf (blockIn (entryNamed (now (image .entry)) entry)) ⌝ }
 {
     let from = entry.position.0 as usize + 16;
     let to = from + entry.len as usize;

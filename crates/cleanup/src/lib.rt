@@ -22,7 +22,8 @@ pub enum Cleaned {
 fn unload_below_round(index: &mut [u64], count: usize, t: RoundNumber) -> u64
     requires { ⌜ (8 * count ≤ length (now index)) × Ascending (rowsOf count (now index)) ⌝ }
     ensures { λ r. ⌜ r ≡ unloads t (rowsOf count (now (index .entry))) ⌝ }
-    ensures { λ _. ⌜ now (index .exit) ≡ written (now (index .entry)) 0 (flat (map (unload t) (rowsOf count (now (index .entry))))) ⌝ }
+    ensures { λ _. ⌜ now (index .exit) ≡ written (now (index .entry)) 0
+        (flat (map (unload t) (rowsOf count (now (index .entry))))) ⌝ }
 {
     let mut unloaded = 0;
     let mut i = 0;

@@ -69,7 +69,8 @@ pub fn encode_range(out: &mut [u8], at: usize, range: TransactionLocatorRange) -
 
 // The statement Share of some bytes.
 pub fn encode_share(out: &mut [u8], at: usize, bytes: &[u8]) -> Encoded
-    ensures { λ r. ⌜ Encodes (now (out .entry)) at (some (statementBytes (share (now (bytes .entry))))) r (now (out .exit)) ⌝ }
+    ensures { λ r. ⌜ Encodes (now (out .entry)) at (some (statementBytes (share (now (bytes .entry))))) r
+        (now (out .exit)) ⌝ }
 {
     let n = bytes.len();
     if !has_room(out.len(), at, 12 + n) {
@@ -92,7 +93,8 @@ fn vote_size(vote: Vote) -> usize
 
 // The statement Vote.
 pub fn encode_vote(out: &mut [u8], at: usize, locator: TransactionLocator, vote: Vote) -> Encoded
-    ensures { λ r. ⌜ Encodes (now (out .entry)) at (some (statementBytes (voteOn locator (voteValue vote)))) r (now (out .exit)) ⌝ }
+    ensures { λ r. ⌜ Encodes (now (out .entry)) at (some (statementBytes (voteOn locator (voteValue vote)))) r
+        (now (out .exit)) ⌝ }
 {
     let n = vote_size(vote);
     if !has_room(out.len(), at, 4 + LOCATOR_SIZE + n) {

@@ -69,7 +69,8 @@ pub fn has_room_for(len: usize, at: usize, n: usize, first: usize, second: usize
 }
 
 pub fn encode_payload(out: &mut [u8], at: usize, statements: &[u8], count: u64) -> Encoded
-    ensures { λ r. ⌜ Encodes (now (out .entry)) at (laidOut payloadBytes (whole (many statement count) (now (statements .entry)))) r (now (out .exit)) ⌝ }
+    ensures { λ r. ⌜ Encodes (now (out .entry)) at
+        (laidOut payloadBytes (whole (many statement count) (now (statements .entry)))) r (now (out .exit)) ⌝ }
 {
     if !are_statements(statements, count) {
         return Encoded::Malformed;
@@ -89,7 +90,8 @@ fn put_head(
     statements: &[u8],
 ) -> usize
     requires { ⌜ at + length (headBytes block (now includes) (now statements)) ≤ length (now out) ⌝ }
-    ensures { λ r. ⌜ Put (now (out .entry)) at (headBytes block (now (includes .entry)) (now (statements .entry))) (now (out .exit)) r ⌝ }
+    ensures { λ r. ⌜ Put (now (out .entry)) at
+        (headBytes block (now (includes .entry)) (now (statements .entry))) (now (out .exit)) r ⌝ }
 {
     let p = put_records::put_reference(out, at, block.reference);
     let q = put_records::put_counted(out, p, block.include_count, includes);
@@ -114,7 +116,9 @@ pub fn encode_block(
     includes: &[u8],
     statements: &[u8],
 ) -> Encoded
-    ensures { λ r. ⌜ Encodes (now (out .entry)) at (laidOut blockBytes (blockFrom block (now (includes .entry)) (now (statements .entry)))) r (now (out .exit)) ⌝ }
+    ensures { λ r. ⌜ Encodes (now (out .entry)) at
+        (laidOut blockBytes (blockFrom block (now (includes .entry)) (now (statements .entry)))) r
+        (now (out .exit)) ⌝ }
 {
     if !are_references(includes, block.include_count) {
         return Encoded::Malformed;

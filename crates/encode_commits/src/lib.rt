@@ -39,7 +39,8 @@ fn are_commits(s: &[u8], n: u64) -> bool
 
 // An own block, of the block's bytes: the next entry stands before them as a count does.
 pub fn encode_own_block(out: &mut [u8], at: usize, next_entry: WalPosition, bytes: &[u8]) -> Encoded
-    ensures { λ r. ⌜ Encodes (now (out .entry)) at (laidOut (ownBlockWith («next_entry» .0)) (whole block (now (bytes .entry)))) r (now (out .exit)) ⌝ }
+    ensures { λ r. ⌜ Encodes (now (out .entry)) at
+        (laidOut (ownBlockWith («next_entry» .0)) (whole block (now (bytes .entry)))) r (now (out .exit)) ⌝ }
 {
     if !is_block(bytes) {
         return Encoded::Malformed;
@@ -58,7 +59,9 @@ pub fn encode_commit_data(
     sub_dag: &[u8],
     count: u64,
 ) -> Encoded
-    ensures { λ r. ⌜ Encodes (now (out .entry)) at (laidOut (commitDataWith leader) (whole (many reference count) (now («sub_dag» .entry)))) r (now (out .exit)) ⌝ }
+    ensures { λ r. ⌜ Encodes (now (out .entry)) at
+        (laidOut (commitDataWith leader) (whole (many reference count) (now («sub_dag» .entry)))) r
+        (now (out .exit)) ⌝ }
 {
     if !encode_blocks::are_references(sub_dag, count) {
         return Encoded::Malformed;
@@ -72,7 +75,9 @@ pub fn encode_commit_data(
 
 // A commit: the elements of its list, and the committed state.
 pub fn encode_commit(out: &mut [u8], at: usize, commits: &[u8], count: u64, state: &[u8]) -> Encoded
-    ensures { λ r. ⌜ Encodes (now (out .entry)) at (laidOut (commitWith (now (state .entry))) (whole (many commitData count) (now (commits .entry)))) r (now (out .exit)) ⌝ }
+    ensures { λ r. ⌜ Encodes (now (out .entry)) at
+        (laidOut (commitWith (now (state .entry))) (whole (many commitData count) (now (commits .entry)))) r
+        (now (out .exit)) ⌝ }
 {
     if !are_commits(commits, count) {
         return Encoded::Malformed;

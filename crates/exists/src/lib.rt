@@ -105,7 +105,8 @@ pub fn all_blocks_exists_at_authority_round(
     authorities: &[u64],
     round: RoundNumber,
 ) -> Answer
-    ensures { λ r. ⌜ r ≡ allBlocksExistAt k (now (image .entry)) used store (now (index .entry)) (now (authorities .entry)) round ⌝ }
+    ensures { λ r. ⌜ r ≡ allBlocksExistAt k (now (image .entry)) used store (now (index .entry))
+        (now (authorities .entry)) round ⌝ }
 {
     let number = store::check_call(k, image, used, store, index);
     if number != 0 {

@@ -85,7 +85,9 @@ pub fn rounds_end(index: &[u64], count: usize, from: usize, limit: usize) -> usi
 // Whether row i is the first, from row `from` on, of its round.
 fn begins_round(index: &[u64], from: usize, i: usize) -> bool
     requires { ⌜ (from ≤ i) × (8 * i + 8 ≤ length (now index)) ⌝ }
-    ensures { λ r. ⌜ r ≡ pick (eqb i from) true (pick (eqb (getD (now (index .entry)) (8 * i) 0) (getD (now (index .entry)) (8 * i - 8) 0)) false true) ⌝ }
+    ensures { λ r. ⌜ r ≡ pick (eqb i from) true
+        (pick (eqb (getD (now (index .entry)) (8 * i) 0) (getD (now (index .entry)) (8 * i - 8) 0)) false
+        true) ⌝ }
 {
     if i == from {
         return true;

@@ -82,7 +82,8 @@ pub fn index_row(reference: BlockReference, position: WalPosition, loaded: u64) 
 // Whether row i, if there is one, has this round and authority.
 fn row_is(t: &[u64], count: usize, i: usize, authority: AuthorityIndex, round: RoundNumber) -> bool
     requires { ⌜ 8 * count ≤ length (now t) ⌝ }
-    ensures { λ r. ⌜ r ≡ pick (ltb i count) (pick (eqb (getD (now (t .entry)) (8 * i) 0) round) (eqb (getD (now (t .entry)) (8 * i + 1) 0) authority) false) false ⌝ }
+    ensures { λ r. ⌜ r ≡ pick (ltb i count) (pick (eqb (getD (now (t .entry)) (8 * i) 0) round)
+        (eqb (getD (now (t .entry)) (8 * i + 1) 0) authority) false) false ⌝ }
 {
     if i < count {
         if t[8 * i] == round {

@@ -41,7 +41,8 @@ fn parents_of(
     end: usize,
 ) -> Parents
     requires { ⌜ round < above ⌝ }
-    ensures { λ r. ⌜ r ≡ pick (eqb above (suc round)) (record { later = eqb above high; end = end }) (record { later = false; end = to }) ⌝ }
+    ensures { λ r. ⌜ r ≡ pick (eqb above (suc round)) (record { later = eqb above high; end = end })
+        (record { later = false; end = to }) ⌝ }
 {
     if above - round != 1 {
         return Parents {
@@ -67,8 +68,12 @@ fn search(
     earlier: BlockReference,
     work: &mut [u64],
 ) -> Searched
-    requires { ⌜ (8 * count ≤ length (now index)) × Ascending (rowsOf count (now index)) × (8 * count ≤ length (now work)) × Parses (now later) ⌝ }
-    ensures { λ r. ⌜ r ≡ searchedOf (λ blocks. reaches blocks earlier high (includesOf (now (later .entry)))) (downTo (earlier .round) high (rowsOf count (now (index .entry)))) (readBlocks k (now (image .entry)) used (downTo (earlier .round) high (rowsOf count (now (index .entry))))) ⌝ }
+    requires { ⌜ (8 * count ≤ length (now index)) × Ascending (rowsOf count (now index))
+        × (8 * count ≤ length (now work)) × Parses (now later) ⌝ }
+    ensures { λ r. ⌜ r ≡ searchedOf (λ blocks. reaches blocks earlier high (includesOf (now (later .entry))))
+        (downTo (earlier .round) high (rowsOf count (now (index .entry))))
+        (readBlocks k (now (image .entry)) used (downTo (earlier .round) high
+        (rowsOf count (now (index .entry))))) ⌝ }
     ensures { λ _. ⌜ length (now (work .exit)) ≡ length (now (work .entry)) ⌝ }
 {
     let low = filters::lower_bound(index, count, [earlier.round, 0, 0, 0, 0, 0]);
@@ -141,7 +146,8 @@ pub fn linked(
     earlier: BlockReference,
     work: &mut [u64],
 ) -> LinkedAnswer
-    ensures { λ r. ⌜ r ≡ linkedAnswer k (now (image .entry)) used store (now (index .entry)) (now (later .entry)) earlier (length (now (work .entry)) / 8) ⌝ }
+    ensures { λ r. ⌜ r ≡ linkedAnswer k (now (image .entry)) used store (now (index .entry))
+        (now (later .entry)) earlier (length (now (work .entry)) / 8) ⌝ }
     ensures { λ _. ⌜ now (work .exit) ≡ zeros (length (now (work .entry))) ⌝ }
 {
     let number = store::check_call(k, image, used, store, index);

@@ -78,7 +78,8 @@ pub fn get_others_blocks(
     limit: usize,
     out: &mut [u64],
 ) -> Looked
-    ensures { λ r. ⌜ GetOthersBlocks k (now (image .entry)) used store (now (index .entry)) «from_excluded» authority limit
+    ensures { λ r. ⌜ GetOthersBlocks k (now (image .entry)) used store (now (index .entry)) «from_excluded»
+        authority limit
         r (now (out .entry)) (now (out .exit)) ⌝ }
 {
     let number = check_after(k, image, used, store, index, from_excluded);

@@ -224,7 +224,8 @@ pub extern "C" fn kadzhomir_block_exists(
     answer: &mut [u64; 2],
 ) -> u8
     ensures { λ r. ⌜ Tells
-        (blockExists k (now (image .entry)) used (storeOf (now (store .entry))) (now (index .entry)) (referenceOf (now (reference .entry))))
+        (blockExists k (now (image .entry)) used (storeOf (now (store .entry))) (now (index .entry))
+        (referenceOf (now (reference .entry))))
         r (now (answer .exit)) ⌝ }
 {
     let s = node_store::store_of(store);
@@ -267,7 +268,8 @@ pub extern "C" fn kadzhomir_all_blocks_exists_at_authority_round(
     answer: &mut [u64; 2],
 ) -> u8
     ensures { λ r. ⌜ Tells
-        (allBlocksExistAt k (now (image .entry)) used (storeOf (now (store .entry))) (now (index .entry)) (now (authorities .entry)) round)
+        (allBlocksExistAt k (now (image .entry)) used (storeOf (now (store .entry))) (now (index .entry))
+        (now (authorities .entry)) round)
         r (now (answer .exit)) ⌝ }
 {
     let s = node_store::store_of(store);
@@ -296,7 +298,8 @@ pub extern "C" fn kadzhomir_get_block(
     answer: &mut [u64; 2],
 ) -> u8
     ensures { λ r. ⌜ GivesLookup
-        (getBlock (callOf k (now (image .entry)) used (storeOf (now (store .entry))) (now (index .entry))) (referenceOf (now (reference .entry))))
+        (getBlock (callOf k (now (image .entry)) used (storeOf (now (store .entry))) (now (index .entry)))
+        (referenceOf (now (reference .entry))))
         (now (store .entry)) r (now (store .exit)) (now (answer .exit)) (now (out .entry)) (now (out .exit)) ⌝ }
 {
     let s = node_store::store_of(store);
@@ -318,7 +321,8 @@ pub extern "C" fn kadzhomir_get_blocks_by_round(
     answer: &mut [u64; 2],
 ) -> u8
     ensures { λ r. ⌜ GivesLookup
-        (getBlocksByRound (callOf k (now (image .entry)) used (storeOf (now (store .entry))) (now (index .entry))) round)
+        (getBlocksByRound (callOf k (now (image .entry)) used (storeOf (now (store .entry))) (now (index .entry)))
+        round)
         (now (store .entry)) r (now (store .exit)) (now (answer .exit)) (now (out .entry)) (now (out .exit)) ⌝ }
 {
     let s = node_store::store_of(store);
@@ -340,7 +344,8 @@ pub extern "C" fn kadzhomir_get_blocks_at_authority_round(
     answer: &mut [u64; 2],
 ) -> u8
     ensures { λ r. ⌜ GivesLookup
-        (getBlocksAtAuthorityRound (callOf k (now (image .entry)) used (storeOf (now (store .entry))) (now (index .entry))) authority round)
+        (getBlocksAtAuthorityRound (callOf k (now (image .entry)) used (storeOf (now (store .entry))) (now (index .entry)))
+        authority round)
         (now (store .entry)) r (now (store .exit)) (now (answer .exit)) (now (out .entry)) (now (out .exit)) ⌝ }
 {
     let s = node_store::store_of(store);
@@ -362,7 +367,8 @@ pub extern "C" fn kadzhomir_get_own_blocks(
     answer: &mut [u64; 2],
 ) -> u8
     ensures { λ r. ⌜ GivesLookup
-        (getOwnBlocks (callOf k (now (image .entry)) used (storeOf (now (store .entry))) (now (index .entry))) «from_excluded» limit)
+        (getOwnBlocks (callOf k (now (image .entry)) used (storeOf (now (store .entry))) (now (index .entry)))
+        «from_excluded» limit)
         (now (store .entry)) r (now (store .exit)) (now (answer .exit)) (now (out .entry)) (now (out .exit)) ⌝ }
 {
     let s = node_store::store_of(store);
@@ -385,7 +391,8 @@ pub extern "C" fn kadzhomir_get_others_blocks(
     answer: &mut [u64; 2],
 ) -> u8
     ensures { λ r. ⌜ GivesLookup
-        (getOthersBlocks (callOf k (now (image .entry)) used (storeOf (now (store .entry))) (now (index .entry))) «from_excluded» authority limit)
+        (getOthersBlocks (callOf k (now (image .entry)) used (storeOf (now (store .entry))) (now (index .entry)))
+        «from_excluded» authority limit)
         (now (store .entry)) r (now (store .exit)) (now (answer .exit)) (now (out .entry)) (now (out .exit)) ⌝ }
 {
     let s = node_store::store_of(store);

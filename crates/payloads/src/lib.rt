@@ -37,7 +37,8 @@ pub fn payload_again(s: &[u8], out: &mut [u8]) -> Encoded
 fn put_payload(out: &mut [u8], at: usize, statements: &[u8], count: u64) -> usize
     requires { ⌜ (at < 2 ^ 61) × (length (now statements) ≤ 13) ⌝ }
     requires { ⌜ isWhole (many statement count) (now statements) ≡ true ⌝ }
-    ensures { λ r. ⌜ Put at (payloadLine (le 8 count ++ now (statements .entry))) (now (out .entry)) (now (out .exit)) r ⌝ }
+    ensures { λ r. ⌜ Put at (payloadLine (le 8 count ++ now (statements .entry))) (now (out .entry))
+        (now (out .exit)) r ⌝ }
 {
     let mut payload = [0u8; PAYLOAD_MAX];
     // They are whole statements and there is room, so that the encoder answers End.

@@ -69,7 +69,8 @@ fn is_reached(
     reference: BlockReference,
 ) -> bool
     requires { ⌜ Ready (now image) (now later) parents from (now work) ⌝ }
-    ensures { λ r. ⌜ r ≡ isReached (parentsOf (now (image .entry)) (now (later .entry)) parents (between from (parents .end) (now (work .entry)))) reference ⌝ }
+    ensures { λ r. ⌜ r ≡ isReached (parentsOf (now (image .entry)) (now (later .entry)) parents
+        (between from (parents .end) (now (work .entry)))) reference ⌝ }
 {
     if parents.later {
         return includes::includes(later, reference);
@@ -91,9 +92,16 @@ pub fn reach_round(
     earlier: BlockReference,
     work: &mut [u64],
 ) -> Searched
-    requires { ⌜ (from ≤ to) × (8 * to ≤ length (now index)) × (8 * to ≤ length (now work)) × Ready (now image) (now later) parents to (now work) ⌝ }
-    ensures { λ r. ⌜ r ≡ searchedOf (meets earlier (parentsOf (now (image .entry)) (now (later .entry)) parents (between to (parents .end) (now (work .entry))))) (between from to (now (index .entry))) (readBlocks k (now (image .entry)) used (between from to (now (index .entry)))) ⌝ }
-    ensures { λ _. ⌜ Marked (now (image .entry)) (parentsOf (now (image .entry)) (now (later .entry)) parents (between to (parents .end) (now (work .entry)))) (between from to (now (work .exit))) (readBlocks k (now (image .entry)) used (between from to (now (index .entry)))) ⌝ }
+    requires { ⌜ (from ≤ to) × (8 * to ≤ length (now index)) × (8 * to ≤ length (now work))
+        × Ready (now image) (now later) parents to (now work) ⌝ }
+    ensures { λ r. ⌜ r ≡ searchedOf (meets earlier
+        (parentsOf (now (image .entry)) (now (later .entry)) parents
+        (between to (parents .end) (now (work .entry))))) (between from to (now (index .entry)))
+        (readBlocks k (now (image .entry)) used (between from to (now (index .entry)))) ⌝ }
+    ensures { λ _. ⌜ Marked (now (image .entry))
+        (parentsOf (now (image .entry)) (now (later .entry)) parents
+        (between to (parents .end) (now (work .entry)))) (between from to (now (work .exit)))
+        (readBlocks k (now (image .entry)) used (between from to (now (index .entry)))) ⌝ }
     ensures { λ _. ⌜ length (now (work .exit)) ≡ length (now (work .entry)) ⌝ }
 {
     let mut i = from;

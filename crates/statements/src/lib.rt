@@ -125,7 +125,8 @@ fn decode_share(s: &[u8], at: usize) -> DecodedStatement
 }
 
 fn decode_vote_on(s: &[u8], at: usize) -> DecodedStatement
-    ensures { λ r. ⌜ r ≡ statementAnswer (then (locator (now (s .entry)) at) (λ l e. then (vote (now (s .entry)) e) (λ v f. got (voteOn l v) f))) ⌝ }
+    ensures { λ r. ⌜ r ≡ statementAnswer (then (locator (now (s .entry)) at)
+        (λ l e. then (vote (now (s .entry)) e) (λ v f. got (voteOn l v) f))) ⌝ }
 {
     let l = types::decode_locator(s, at);
     if !l.ok {

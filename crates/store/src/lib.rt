@@ -103,7 +103,8 @@ impl BlockStore {
 // pass, since every call makes it.
 fn check_rows(index: &[u64], count: usize, size: u64) -> bool
     requires { ⌜ 8 * count ≤ length (now index) ⌝ }
-    ensures { λ r. ⌜ r ≡ pick (ascendingb (rowsOf count (now (index .entry)))) (authoritiesBelow size (rowsOf count (now (index .entry)))) false ⌝ }
+    ensures { λ r. ⌜ r ≡ pick (ascendingb (rowsOf count (now (index .entry))))
+        (authoritiesBelow size (rowsOf count (now (index .entry)))) false ⌝ }
 {
     let mut i = 0;
     while i + 1 < count {

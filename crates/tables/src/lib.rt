@@ -75,7 +75,8 @@ fn move_down(t: &mut [u64], from: usize, n: usize)
 // Puts a row before row i: the rows from i on move up by one.
 pub fn insert_row(t: &mut [u64], count: usize, i: usize, row: [u64; 8])
     requires { ⌜ (i ≤ count) × (8 * count + 8 ≤ length (now t)) ⌝ }
-    ensures { λ _. ⌜ now (t .exit) ≡ written (now (t .entry)) (8 * i) (row ++ bytesAt (now (t .entry)) (8 * i) (8 * (count - i))) ⌝ }
+    ensures { λ _. ⌜ now (t .exit) ≡ written (now (t .entry)) (8 * i)
+        (row ++ bytesAt (now (t .entry)) (8 * i) (8 * (count - i))) ⌝ }
 {
     move_up(t, 8 * i, 8 * (count - i));
     put_row(t, i, row);
@@ -84,7 +85,8 @@ pub fn insert_row(t: &mut [u64], count: usize, i: usize, row: [u64; 8])
 // Removes the first n rows: the others move down, and what they leave is zeroed.
 pub fn drop_rows(t: &mut [u64], count: usize, n: usize)
     requires { ⌜ (n ≤ count) × (8 * count ≤ length (now t)) ⌝ }
-    ensures { λ _. ⌜ now (t .exit) ≡ written (now (t .entry)) 0 (bytesAt (now (t .entry)) (8 * n) (8 * (count - n)) ++ zeros (8 * n)) ⌝ }
+    ensures { λ _. ⌜ now (t .exit) ≡ written (now (t .entry)) 0
+        (bytesAt (now (t .entry)) (8 * n) (8 * (count - n)) ++ zeros (8 * n)) ⌝ }
 {
     move_down(t, 8 * n, 8 * (count - n));
     zero_words(t, 8 * (count - n), 8 * n);

@@ -22,6 +22,8 @@ use recovery::Recovered;
 use state::Replay;
 use state::Span;
 use wal::Stop;
+use wal::Walked;
+use wal_position::WalPosition;
 
 // The arguments of a call, but for the image.
 pub struct Call {
@@ -127,10 +129,17 @@ fn feed_table(register: u32, t: &[u64]) -> u32 {
     c
 }
 
+fn feed_three(register: u32, a: u64, b: u64, c: u64) -> u32 {
+    let one = feed_word(register, a);
+    let two = feed_word(one, b);
+    feed_word(two, c)
+}
+
 fn feed_span(register: u32, s: Span) -> u32 {
-    let one = feed_word(register, s.there as u64);
-    let two = feed_word(one, s.at as u64);
-    feed_word(two, s.len as u64)
+    match s {
+        Span::Nothing => feed_three(register, 0, 0, 0),
+        Span::At(at, len) => feed_three(register, 1, at as u64, len as u64),
+    }
 }
 
 fn feed_reference(register: u32, f: FoundReference) -> u32 {
@@ -225,15 +234,26 @@ fn show_blocks(name: &[u8], t: &[u64], count: usize) {
     }
 }
 
-// Whether it is there, its place, its length, its checksum.
-fn show_span(name: &[u8], image: &[u8], s: Span) {
-    let at = s.at;
-    let end = plus(at, s.len);
-    io::write_all(STDOUT_FILENO, name);
-    number(s.there as u64);
+// Its place, its length, its checksum.
+fn show_place(image: &[u8], at: usize, len: usize) {
     number(at as u64);
-    number(s.len as u64);
-    hex(checksum::hash(part(image, at, end)) as u64, 8);
+    number(len as u64);
+    hex(checksum::hash(part(image, at, plus(at, len))) as u64, 8);
+}
+
+// Whether it is there, and its place.
+fn show_span(name: &[u8], image: &[u8], s: Span) {
+    io::write_all(STDOUT_FILENO, name);
+    match s {
+        Span::Nothing => {
+            number(0);
+            show_place(image, 0, 0);
+        }
+        Span::At(at, len) => {
+            number(1);
+            show_place(image, at, len);
+        }
+    }
     end_line();
 }
 
@@ -311,41 +331,55 @@ fn counted(n: u64, w: u64) -> u64 {
 }
 
 fn show_refusal(
-    r: Recovered,
+    refusal: u8,
+    start: WalPosition,
     pending: &[u64],
     unprocessed: &[u64],
     committed: &[u64],
     index: &[u64],
 ) {
-    let start = r.start;
     let one = count_words(0, pending);
     let two = count_words(one, unprocessed);
     let three = count_words(two, committed);
     let four = count_words(three, index);
     io::write_all(STDOUT_FILENO, b"REFUSED");
-    number(r.number as u64);
+    number(refusal as u64);
     number(start.0);
     number(four);
     end_line();
 }
 
-fn show_stop(r: Recovered) {
-    let stop = r.stop;
-    let end = r.end;
+fn show_stop(stop: Stop, end: WalPosition, unread: u64) {
     word(stop);
     number(end.0);
-    number(r.unread);
+    number(unread);
 }
 
-// The stop, and a checksum of the state and every word of the tables.
-fn show_line(r: Recovered, pending: &[u64], unprocessed: &[u64], committed: &[u64], index: &[u64]) {
-    let s = r.replay;
+// A checksum of the state and every word of the tables.
+fn show_line(s: Replay, pending: &[u64], unprocessed: &[u64], committed: &[u64], index: &[u64]) {
     let one = feed_table(0xffff_ffff, pending);
     let two = feed_table(one, unprocessed);
     let three = feed_table(two, committed);
     let four = feed_table(three, index);
-    show_stop(r);
     show_sum(feed_state(four, s));
+}
+
+// In full, or as a checksum in the stop's line.
+fn show_state(
+    form: u64,
+    image: &[u8],
+    s: Replay,
+    pending: &[u64],
+    unprocessed: &[u64],
+    committed: &[u64],
+    index: &[u64],
+) {
+    if form != 0 {
+        show_line(s, pending, unprocessed, committed, index);
+        return;
+    }
+    end_line();
+    show_replay(image, s, pending, unprocessed, committed, index);
 }
 
 fn show(
@@ -357,18 +391,24 @@ fn show(
     committed: &[u64],
     index: &[u64],
 ) {
-    if r.number != 0 {
-        show_refusal(r, pending, unprocessed, committed, index);
-        return;
+    let walked = r.walked;
+    match walked {
+        Walked::Refused(refusal, start) => {
+            show_refusal(refusal, start, pending, unprocessed, committed, index);
+        }
+        Walked::Stopped(stop, end, unread) => {
+            show_stop(stop, end, unread);
+            show_state(
+                form,
+                image,
+                r.replay,
+                pending,
+                unprocessed,
+                committed,
+                index,
+            );
+        }
     }
-    if form != 0 {
-        show_line(r, pending, unprocessed, committed, index);
-        return;
-    }
-    let s = r.replay;
-    show_stop(r);
-    end_line();
-    show_replay(image, s, pending, unprocessed, committed, index);
 }
 
 // ---- The call

@@ -21,6 +21,7 @@ use insert::Inserted;
 use libc::STDIN_FILENO;
 use libc::STDOUT_FILENO;
 use lookup::Looked;
+use state::Span;
 use store::BlockStore;
 use types::BlockReference;
 use types::TransactionLocator;
@@ -223,6 +224,27 @@ fn show_answer(a: Answer) {
     end_line();
 }
 
+// Its place, its length, its checksum.
+fn show_place(image: &[u8], at: usize, len: usize) {
+    number(at as u64);
+    number(len as u64);
+    hex(checksum::hash(part(image, at, plus(at, len))) as u64, 8);
+}
+
+// Whether it is there, and its place.
+fn show_span(image: &[u8], s: Span) {
+    match s {
+        Span::Nothing => {
+            number(0);
+            show_place(image, 0, 0);
+        }
+        Span::At(at, len) => {
+            number(1);
+            show_place(image, at, len);
+        }
+    }
+}
+
 // ---- Calls that change the store
 
 fn do_open(t: Setting, image: &[u8], index: &mut [u64]) -> Setting {
@@ -242,9 +264,10 @@ fn do_open(t: Setting, image: &[u8], index: &mut [u64]) -> Setting {
         &mut committed,
         index,
     );
-    let now = with_store(t, BlockStore::open(size, own, r.replay));
+    let opened = BlockStore::open(size, own, r);
+    let now = with_store(t, opened.store);
     text(b"open");
-    number(r.number as u64);
+    number(opened.number as u64);
     show_setting(now, image, index);
     now
 }
@@ -429,14 +452,10 @@ fn do_transaction(t: Setting, s: &[u8], at: usize, image: &[u8], index: &[u64]) 
     };
     let r = transaction::get_transaction(t.k, image, t.used, t.store, index, locator);
     let share = r.share;
-    let end = plus(share.at, share.len);
     let now = with_store(t, r.store);
     text(b"get_transaction");
     number(r.number as u64);
-    number(share.there as u64);
-    number(share.at as u64);
-    number(share.len as u64);
-    hex(checksum::hash(part(image, share.at, end)) as u64, 8);
+    show_span(image, share);
     number(loads_of(now));
     end_line();
     now

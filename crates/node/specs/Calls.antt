@@ -1,50 +1,46 @@
--- What each call answers, and what it leaves in what it is lent.
+-- What each call answers, and what it leaves in what it is lent: equations with the definitions of the calls beneath.
 use mathlib.Core.Path.{_≡_}
 use mathlib.Core.List.{List}
 use Prim.Native.Nat.{ℕ}
 use lib.ListN.{length}
-use Rattle.text.specs.Clipped.{clipped}
 use Rattle.wal_writer.specs.Answers.{appendAnswer, appendImage}
-use Rattle.wal.specs.Answers.{walkAnswer}
 use Rattle.wal_writer.specs.declared.WalWriter.{WalWriter}
-use Rattle.replay.specs.Recovery.{Recovery}
-use Rattle.indexing.specs.declared.Inserted.{Inserted}
-use Rattle.query.specs.declared.Looked.{Looked}
-use Rattle.replay_log.specs.Answers.{recoveredOf, answerTable, pendingRows, unprocessedRows, committedRows, indexRows}
-use Rattle.node_words.specs.Words.{recoveredWords}
-use Rattle.node_log.specs.Answers.{appendNumber, appendWords, walkNumber, walkWords}
+use Rattle.replay.specs.Recovery.{recover}
+use Rattle.replay_log.specs.Answers.{recoveredOf, Tables, rowsLent, tablesAfter}
+use Rattle.insert.specs.Insert.{insertedAnswer, insertedImage, insertedIndex}
+use Rattle.query.specs.Query.{Question, looked, lookedWords}
+use Rattle.wal.specs.declared.Walked.{Walked}
+use Rattle.wal.specs.Answers.{walkedNumber}
+use Rattle.recovered.specs.declared.Recovered.{Recovered}
+use Rattle.node_words.specs.Words.{walkedWords, recoveredWords}
+use Rattle.node_store.specs.Stores.{storeOf}
+use Rattle.node_log.specs.Answers.{appendNumber, appendWords, Gives}
 use Rattle.node_answers.specs.Answers.{Logs, Looks}
 
--- The number, as many of the answer's words as fit into a, and each word of the tables: p, u, c, i and a are those lent, p′, u′, c′,
--- i′ and a′ those given back.
-pub record Recovers (used own : ℕ) (x : Recovery) (r : ℕ) (p u c i a p′ u′ c′ i′ a′ : List ℕ) : Type 0 where
-  pub number : r ≡ recoveredOf used own x .number
-  pub words : a′ ≡ clipped a 0 (recoveredWords (recoveredOf used own x))
-  pub pending : p′ ≡ answerTable (length p) pendingRows x
-  pub unprocessed : u′ ≡ answerTable (length u) unprocessedRows x
-  pub committed : c′ ≡ answerTable (length c) committedRows x
-  pub index : i′ ≡ answerTable (length i) indexRows x
+-- of a walk: the number, and the words of the answer
+abbrev pub GivesWalk : Walked → ℕ → List ℕ → Type 0
+GivesWalk x n a = Gives (walkedNumber x) (walkedWords x) n a
 
--- The same of an append: s is the image before it, and s′ after it.
-pub record Appends (w : WalWriter) (tag : ℕ) (payload : List ℕ) (r : ℕ) (s a s′ a′ : List ℕ) : Type 0 where
-  pub number : r ≡ appendNumber (appendAnswer w s payload)
-  pub words : a′ ≡ clipped a 0 (appendWords (w .used) (appendAnswer w s payload))
-  pub image : s′ ≡ appendImage w s tag payload
+-- of a recovery: the same, and each word of the tables
+pub record GivesRecovery (k : ℕ) (image : List ℕ) (used size own : ℕ) (before : Tables) (n : ℕ) (a : List ℕ) (after : Tables) : Type 0 where
+  pub number : n ≡ walkedNumber (recoveredOf used own (recover k image used size own (rowsLent before)) .walked)
+  pub words : a ≡ recoveredWords (recoveredOf used own (recover k image used size own (rowsLent before)))
+  pub rows : after ≡ tablesAfter (recover k image used size own (rowsLent before)) before
 
--- The same of a walk.
-pub record Walks (k : ℕ) (s : List ℕ) (used r : ℕ) (a a′ : List ℕ) : Type 0 where
-  pub number : r ≡ walkNumber (walkAnswer k s used)
-  pub words : a′ ≡ clipped a 0 (walkWords (walkAnswer k s used))
+-- of an append: the same of its answer, and the image before and after it
+pub record GivesAppend (w : WalWriter) (tag : ℕ) (payload : List ℕ) (n : ℕ) (a image image′ : List ℕ) : Type 0 where
+  pub number : n ≡ appendNumber (appendAnswer w image payload)
+  pub words : a ≡ appendWords (w .used) (appendAnswer w image payload)
+  pub log : image′ ≡ appendImage w image tag payload
 
--- A call of the crate insert, whose contract says what its answer is: what it answers is put. w and a are the words lent for the store
--- and for the answer, w′ and a′ what they hold after the call.
-pub record Inserting (call : Inserted → Type 0) (n : ℕ) (w a w′ a′ : List ℕ) : Type 0 where
-  pub answer : Inserted
-  pub answers : call answer
-  pub gives : Logs answer n w a w′ a′
+-- of an insert: the number, the words of the answer and of the store, and the image and the index. `words` are the store's before the
+-- call, `words′` those after it.
+pub record GivesInsert (w : WalWriter) (tag : ℕ) (payload image index words : List ℕ) (n : ℕ) (words′ a image′ index′ : List ℕ) : Type 0 where
+  pub gives : Logs (insertedAnswer w (storeOf words) tag payload image index) n words words′ a
+  pub log : image′ ≡ insertedImage w (storeOf words) tag payload image index
+  pub rows : index′ ≡ insertedIndex w (storeOf words) tag payload image index
 
--- The same of a call of the crate lookup.
-pub record Looking (call : Looked → Type 0) (n : ℕ) (w a w′ a′ : List ℕ) : Type 0 where
-  pub answer : Looked
-  pub answers : call answer
-  pub gives : Looks answer n w a w′ a′
+-- of a lookup that asks q: the number, the words of the answer and of the store, and the rows found. `out` is the table lent for them.
+pub record GivesLookup (q : Question) (words : List ℕ) (n : ℕ) (words′ a out out′ : List ℕ) : Type 0 where
+  pub gives : Looks (looked q (length out)) n words words′ a
+  pub rows : out′ ≡ lookedWords q (length out)

@@ -1,30 +1,28 @@
-// The node's calls for programs in C or Rust (include/kadzhomir.h). A slice is passed as a pointer and
-// a number of elements, and one that a call may write overlaps no other: nothing asks that of a caller in C.
-// An answer is words in a slice that the caller lends; those that do not fit are left out. A store is
-// words that the caller keeps. Each call answers the refusal's number, 0 where there is none.
+// The node's calls for programs in C or Rust (include/kadzhomir.h). A slice is passed as a pointer and a number
+// of elements, an array of fixed length as a pointer, and what a call may write overlaps nothing else: nothing
+// asks that of a caller in C. Fixed answers, stores and references are arrays, so that none can be too short. A
+// store is words that the caller keeps. Each call answers the refusal's number, 0 where there is none.
 ghost use mathlib.Core.Path.{_≡_};
+ghost use Prim.Native.Nat.{_+_, _*_, _/_};
 ghost use lib.ListN.{length};
-ghost use Rattle.text.specs.Clipped.{clipped};
+ghost use Rattle.laws.specs.Bytes.{zeros};
 ghost use Rattle.types.specs.Records.{block, reference as parsed};
 ghost use Rattle.types.specs.Answers.{referenceAnswer};
 ghost use Rattle.blocks.specs.Answers.{blockAnswer};
 ghost use Rattle.wal_reader.specs.Answers.{readAnswer};
-ghost use Rattle.wal.specs.Answers.{walkStepAnswer};
-ghost use Rattle.replay.specs.Recovery as replay;
-ghost use Rattle.state.specs.Tables.{lentOf};
-ghost use Prim.Native.Nat.{_+_, _*_, _/_};
+ghost use Rattle.wal.specs.Answers.{walkStepAnswer, walkAnswer};
+ghost use Rattle.replay_log.specs.Answers.{tables};
 ghost use Rattle.exists.specs.Exists.{blockExists, blockExistsAt, allBlocksExistAt};
 ghost use Rattle.cleanup.specs.Cleanup.{cleanupAnswer, cleanupIndex};
-ghost use Rattle.insert.specs.Insert.{Inserts};
-ghost use Rattle.lookup.specs.Lookups.{GetBlock, GetBlocksByRound, GetBlocksAtAuthorityRound};
-ghost use Rattle.lookup_after.specs.After.{GetOwnBlocks, GetOthersBlocks};
+ghost use Rattle.query.specs.Query.{callOf};
+ghost use Rattle.lookup.specs.Lookups.{getBlock, getBlocksByRound, getBlocksAtAuthorityRound};
+ghost use Rattle.lookup_after.specs.After.{getOwnBlocks, getOthersBlocks};
 ghost use Rattle.transaction.specs.Transaction.{getTransaction};
 ghost use Rattle.linked.specs.Linked.{linkedAnswer};
-ghost use Rattle.laws.specs.Bytes.{zeros};
-ghost use Rattle.node_store.specs.Stores.{referenceOf, storeOf, openedWords};
+ghost use Rattle.node_store.specs.Stores.{referenceOf, storeOf, recoveryNumber, resumedUsed, openedNumber, openedAfter};
 ghost use Rattle.node_log.specs.Answers.{Reads, Steps, DecodesBlock, DecodesReference};
 ghost use Rattle.node_answers.specs.Answers.{Tells, Cleans, Shows, Links};
-ghost use Rattle.node.specs.Calls.{Recovers, Appends, Walks, Inserting, Looking};
+ghost use Rattle.node.specs.Calls.{GivesWalk, GivesRecovery, GivesAppend, GivesInsert, GivesLookup};
 use types::TransactionLocator;
 use wal::WalPosition;
 use wal::WalWriter;
@@ -37,14 +35,15 @@ pub extern "C" fn kadzhomir_append(
     image: &mut [u8],
     tag: u32,
     payload: &[u8],
-    answer: &mut [u64],
+    answer: &mut [u64; 3],
 ) -> u8
-    ensures { λ r. ⌜ Appends (record { exponent = k; used = used }) tag (now (payload .entry)) r (now (image .entry)) (now (answer .entry)) (now (image .exit)) (now (answer .exit)) ⌝ }
+    ensures { λ r. ⌜ GivesAppend (record { exponent = k; used = used }) tag (now (payload .entry))
+        r (now (answer .exit)) (now (image .entry)) (now (image .exit)) ⌝ }
 {
     let writer = WalWriter { exponent: k, used };
     let found = wal::append(writer, image, tag, payload);
     let words = node_log::append_words(used, found);
-    node_words::put_words(answer, 0, &words);
+    *answer = words;
     node_log::append_number(found)
 }
 
@@ -55,9 +54,9 @@ pub extern "C" fn kadzhomir_read(
     image: &[u8],
     used: u64,
     position: u64,
-    answer: &mut [u64],
+    answer: &mut [u64; 5],
 ) -> u8
-    ensures { λ r. ⌜ Reads (readAnswer k (now (image .entry)) used position) r (now (answer .entry)) (now (answer .exit)) ⌝ }
+    ensures { λ r. ⌜ Reads (readAnswer k (now (image .entry)) used position) r (now (answer .exit)) ⌝ }
 {
     let found = wal::read(k, image, used, WalPosition(position));
     node_log::put_found(answer, found)
@@ -70,9 +69,9 @@ pub extern "C" fn kadzhomir_walk_step(
     image: &[u8],
     used: u64,
     e: u64,
-    answer: &mut [u64],
+    answer: &mut [u64; 6],
 ) -> u8
-    ensures { λ r. ⌜ Steps (walkStepAnswer k (now (image .entry)) used e) r (now (answer .entry)) (now (answer .exit)) ⌝ }
+    ensures { λ r. ⌜ Steps (walkStepAnswer k (now (image .entry)) used e) r (now (answer .exit)) ⌝ }
 {
     let step = wal::walk_step(k, image, used, WalPosition(e));
     node_log::put_step(answer, step)
@@ -80,13 +79,13 @@ pub extern "C" fn kadzhomir_walk_step(
 
 // Walks a log of `used` bytes, and answers the refusal's number, 0 where there is none.
 #[no_mangle]
-pub extern "C" fn kadzhomir_walk(k: u64, image: &[u8], used: u64, answer: &mut [u64]) -> u8
-    ensures { λ r. ⌜ Walks k (now (image .entry)) used r (now (answer .entry)) (now (answer .exit)) ⌝ }
+pub extern "C" fn kadzhomir_walk(k: u64, image: &[u8], used: u64, answer: &mut [u64; 5]) -> u8
+    ensures { λ r. ⌜ GivesWalk (walkAnswer k (now (image .entry)) used) r (now (answer .exit)) ⌝ }
 {
     let found = wal::walk(k, image, used);
-    let words = node_log::walk_words(found);
-    node_words::put_words(answer, 0, &words);
-    node_log::walk_number(found)
+    let words = node_words::walk_words(found);
+    *answer = words;
+    found.number()
 }
 
 // Recovers what a log holds into the tables, and answers the refusal's number, 0 where there is none.
@@ -101,9 +100,12 @@ pub extern "C" fn kadzhomir_recover(
     unprocessed: &mut [u64],
     committed: &mut [u64],
     index: &mut [u64],
-    answer: &mut [u64],
+    answer: &mut [u64; 161],
 ) -> u8
-    ensures { λ r. ⌜ Recovers used own (replay.recover k (now (image .entry)) used size own (lentOf (now (pending .entry)) (now (unprocessed .entry)) (now (committed .entry)) (now (index .entry)))) r (now (pending .entry)) (now (unprocessed .entry)) (now (committed .entry)) (now (index .entry)) (now (answer .entry)) (now (pending .exit)) (now (unprocessed .exit)) (now (committed .exit)) (now (index .exit)) (now (answer .exit)) ⌝ }
+    ensures { λ r. ⌜ GivesRecovery k (now (image .entry)) used size own
+        (tables (now (pending .entry)) (now (unprocessed .entry)) (now (committed .entry)) (now (index .entry)))
+        r (now (answer .exit))
+        (tables (now (pending .exit)) (now (unprocessed .exit)) (now (committed .exit)) (now (index .exit))) ⌝ }
 {
     let r = recovery::recover(
         k,
@@ -117,17 +119,33 @@ pub extern "C" fn kadzhomir_recover(
         index,
     );
     node_words::put_recovered(answer, r);
-    r.number
+    let walked = r.walked;
+    walked.number()
 }
 
-// Puts the store that a recovery for this committee and own authority leaves: its answer is `recovered`.
+// Puts the store that a recovery for this committee and own authority leaves: its answer is `recovered`. A
+// refused recovery opens none, and a refusal leaves the store's words as they are.
 #[no_mangle]
-pub extern "C" fn kadzhomir_open(size: u64, own: u64, recovered: &[u64], store: &mut [u64]) -> u8
-    ensures { λ r. ⌜ r ≡ 0 ⌝ }
-    ensures { λ _. ⌜ now (store .exit) ≡ clipped (now (store .entry)) 0 (openedWords size own (now (recovered .entry))) ⌝ }
+pub extern "C" fn kadzhomir_open(
+    size: u64,
+    own: u64,
+    recovered: &[u64; 161],
+    store: &mut [u64; 140],
+) -> u8
+    ensures { λ r. ⌜ (r ≡ openedNumber size own (now (recovered .entry)))
+        × (now (store .exit) ≡ openedAfter size own (now (recovered .entry)) (now (store .entry))) ⌝ }
 {
-    node_store::put_opened(store, size, own, recovered);
-    0
+    node_store::open_store(store, size, own, recovered)
+}
+
+// The writer to go on with after a recovery, whose answer is `recovered`: E becomes `used`. A refused recovery
+// leaves it as it is.
+#[no_mangle]
+pub extern "C" fn kadzhomir_writer(recovered: &[u64; 161], used: &mut u64) -> u8
+    ensures { λ r. ⌜ (r ≡ recoveryNumber (now (recovered .entry)))
+        × (now (used .exit) ≡ resumedUsed (now (recovered .entry)) (now (used .entry))) ⌝ }
+{
+    node_store::resume(recovered, used)
 }
 
 // Logs a block's bytes with tag 1, and indexes it.
@@ -136,12 +154,14 @@ pub extern "C" fn kadzhomir_insert_block(
     k: u64,
     used: u64,
     image: &mut [u8],
-    store: &mut [u64],
+    store: &mut [u64; 140],
     index: &mut [u64],
     block: &[u8],
-    answer: &mut [u64],
+    answer: &mut [u64; 3],
 ) -> u8
-    ensures { λ r. ⌜ Inserting (λ x. Inserts (record { exponent = k; used = used }) (storeOf (now (store .entry))) 1 (now (block .entry)) (now (image .entry)) (now (index .entry)) x (now (image .exit)) (now (index .exit))) r (now (store .entry)) (now (answer .entry)) (now (store .exit)) (now (answer .exit)) ⌝ }
+    ensures { λ r. ⌜ GivesInsert (record { exponent = k; used = used }) 1 (now (block .entry))
+        (now (image .entry)) (now (index .entry)) (now (store .entry))
+        r (now (store .exit)) (now (answer .exit)) (now (image .exit)) (now (index .exit)) ⌝ }
 {
     let s = node_store::store_of(store);
     let writer = WalWriter { exponent: k, used };
@@ -155,12 +175,14 @@ pub extern "C" fn kadzhomir_insert_own_block(
     k: u64,
     used: u64,
     image: &mut [u8],
-    store: &mut [u64],
+    store: &mut [u64; 140],
     index: &mut [u64],
     own_block: &[u8],
-    answer: &mut [u64],
+    answer: &mut [u64; 3],
 ) -> u8
-    ensures { λ r. ⌜ Inserting (λ x. Inserts (record { exponent = k; used = used }) (storeOf (now (store .entry))) 3 (now («own_block» .entry)) (now (image .entry)) (now (index .entry)) x (now (image .exit)) (now (index .exit))) r (now (store .entry)) (now (answer .entry)) (now (store .exit)) (now (answer .exit)) ⌝ }
+    ensures { λ r. ⌜ GivesInsert (record { exponent = k; used = used }) 3 (now («own_block» .entry))
+        (now (image .entry)) (now (index .entry)) (now (store .entry))
+        r (now (store .exit)) (now (answer .exit)) (now (image .exit)) (now (index .exit)) ⌝ }
 {
     let s = node_store::store_of(store);
     let writer = WalWriter { exponent: k, used };
@@ -174,13 +196,16 @@ pub extern "C" fn kadzhomir_cleanup(
     k: u64,
     image: &[u8],
     used: u64,
-    store: &[u64],
+    store: &[u64; 140],
     index: &mut [u64],
     t: u64,
-    answer: &mut [u64],
+    answer: &mut [u64; 2],
 ) -> u8
-    ensures { λ r. ⌜ Cleans (cleanupAnswer k (now (image .entry)) used (storeOf (now (store .entry))) (now (index .entry)) t) r (now (answer .entry)) (now (answer .exit)) ⌝ }
-    ensures { λ _. ⌜ now (index .exit) ≡ cleanupIndex k (now (image .entry)) used (storeOf (now (store .entry))) (now (index .entry)) t ⌝ }
+    ensures { λ r. ⌜ Cleans
+        (cleanupAnswer k (now (image .entry)) used (storeOf (now (store .entry))) (now (index .entry)) t)
+        r (now (answer .exit)) ⌝ }
+    ensures { λ _. ⌜ now (index .exit)
+        ≡ cleanupIndex k (now (image .entry)) used (storeOf (now (store .entry))) (now (index .entry)) t ⌝ }
 {
     let s = node_store::store_of(store);
     let cleaned = cleanup::cleanup(k, image, used, s, index, t);
@@ -193,12 +218,14 @@ pub extern "C" fn kadzhomir_block_exists(
     k: u64,
     image: &[u8],
     used: u64,
-    store: &[u64],
+    store: &[u64; 140],
     index: &[u64],
-    reference: &[u64],
-    answer: &mut [u64],
+    reference: &[u64; 6],
+    answer: &mut [u64; 2],
 ) -> u8
-    ensures { λ r. ⌜ Tells (blockExists k (now (image .entry)) used (storeOf (now (store .entry))) (now (index .entry)) (referenceOf (now (reference .entry)))) r (now (answer .entry)) (now (answer .exit)) ⌝ }
+    ensures { λ r. ⌜ Tells
+        (blockExists k (now (image .entry)) used (storeOf (now (store .entry))) (now (index .entry)) (referenceOf (now (reference .entry))))
+        r (now (answer .exit)) ⌝ }
 {
     let s = node_store::store_of(store);
     let x = node_store::reference_at(reference, 0);
@@ -212,13 +239,15 @@ pub extern "C" fn kadzhomir_block_exists_at_authority_round(
     k: u64,
     image: &[u8],
     used: u64,
-    store: &[u64],
+    store: &[u64; 140],
     index: &[u64],
     authority: u64,
     round: u64,
-    answer: &mut [u64],
+    answer: &mut [u64; 2],
 ) -> u8
-    ensures { λ r. ⌜ Tells (blockExistsAt k (now (image .entry)) used (storeOf (now (store .entry))) (now (index .entry)) authority round) r (now (answer .entry)) (now (answer .exit)) ⌝ }
+    ensures { λ r. ⌜ Tells
+        (blockExistsAt k (now (image .entry)) used (storeOf (now (store .entry))) (now (index .entry)) authority round)
+        r (now (answer .exit)) ⌝ }
 {
     let s = node_store::store_of(store);
     let told = exists::block_exists_at_authority_round(k, image, used, s, index, authority, round);
@@ -231,13 +260,15 @@ pub extern "C" fn kadzhomir_all_blocks_exists_at_authority_round(
     k: u64,
     image: &[u8],
     used: u64,
-    store: &[u64],
+    store: &[u64; 140],
     index: &[u64],
     authorities: &[u64],
     round: u64,
-    answer: &mut [u64],
+    answer: &mut [u64; 2],
 ) -> u8
-    ensures { λ r. ⌜ Tells (allBlocksExistAt k (now (image .entry)) used (storeOf (now (store .entry))) (now (index .entry)) (now (authorities .entry)) round) r (now (answer .entry)) (now (answer .exit)) ⌝ }
+    ensures { λ r. ⌜ Tells
+        (allBlocksExistAt k (now (image .entry)) used (storeOf (now (store .entry))) (now (index .entry)) (now (authorities .entry)) round)
+        r (now (answer .exit)) ⌝ }
 {
     let s = node_store::store_of(store);
     let told = exists::all_blocks_exists_at_authority_round(
@@ -258,13 +289,15 @@ pub extern "C" fn kadzhomir_get_block(
     k: u64,
     image: &[u8],
     used: u64,
-    store: &mut [u64],
+    store: &mut [u64; 140],
     index: &[u64],
-    reference: &[u64],
+    reference: &[u64; 6],
     out: &mut [u64],
-    answer: &mut [u64],
+    answer: &mut [u64; 2],
 ) -> u8
-    ensures { λ r. ⌜ Looking (λ x. GetBlock k (now (image .entry)) used (storeOf (now (store .entry))) (now (index .entry)) (referenceOf (now (reference .entry))) x (now (out .entry)) (now (out .exit))) r (now (store .entry)) (now (answer .entry)) (now (store .exit)) (now (answer .exit)) ⌝ }
+    ensures { λ r. ⌜ GivesLookup
+        (getBlock (callOf k (now (image .entry)) used (storeOf (now (store .entry))) (now (index .entry))) (referenceOf (now (reference .entry))))
+        (now (store .entry)) r (now (store .exit)) (now (answer .exit)) (now (out .entry)) (now (out .exit)) ⌝ }
 {
     let s = node_store::store_of(store);
     let x = node_store::reference_at(reference, 0);
@@ -278,13 +311,15 @@ pub extern "C" fn kadzhomir_get_blocks_by_round(
     k: u64,
     image: &[u8],
     used: u64,
-    store: &mut [u64],
+    store: &mut [u64; 140],
     index: &[u64],
     round: u64,
     out: &mut [u64],
-    answer: &mut [u64],
+    answer: &mut [u64; 2],
 ) -> u8
-    ensures { λ r. ⌜ Looking (λ x. GetBlocksByRound k (now (image .entry)) used (storeOf (now (store .entry))) (now (index .entry)) round x (now (out .entry)) (now (out .exit))) r (now (store .entry)) (now (answer .entry)) (now (store .exit)) (now (answer .exit)) ⌝ }
+    ensures { λ r. ⌜ GivesLookup
+        (getBlocksByRound (callOf k (now (image .entry)) used (storeOf (now (store .entry))) (now (index .entry))) round)
+        (now (store .entry)) r (now (store .exit)) (now (answer .exit)) (now (out .entry)) (now (out .exit)) ⌝ }
 {
     let s = node_store::store_of(store);
     let r = lookup::get_blocks_by_round(k, image, used, s, index, round, out);
@@ -297,14 +332,16 @@ pub extern "C" fn kadzhomir_get_blocks_at_authority_round(
     k: u64,
     image: &[u8],
     used: u64,
-    store: &mut [u64],
+    store: &mut [u64; 140],
     index: &[u64],
     authority: u64,
     round: u64,
     out: &mut [u64],
-    answer: &mut [u64],
+    answer: &mut [u64; 2],
 ) -> u8
-    ensures { λ r. ⌜ Looking (λ x. GetBlocksAtAuthorityRound k (now (image .entry)) used (storeOf (now (store .entry))) (now (index .entry)) authority round x (now (out .entry)) (now (out .exit))) r (now (store .entry)) (now (answer .entry)) (now (store .exit)) (now (answer .exit)) ⌝ }
+    ensures { λ r. ⌜ GivesLookup
+        (getBlocksAtAuthorityRound (callOf k (now (image .entry)) used (storeOf (now (store .entry))) (now (index .entry))) authority round)
+        (now (store .entry)) r (now (store .exit)) (now (answer .exit)) (now (out .entry)) (now (out .exit)) ⌝ }
 {
     let s = node_store::store_of(store);
     let r = lookup::get_blocks_at_authority_round(k, image, used, s, index, authority, round, out);
@@ -317,14 +354,16 @@ pub extern "C" fn kadzhomir_get_own_blocks(
     k: u64,
     image: &[u8],
     used: u64,
-    store: &mut [u64],
+    store: &mut [u64; 140],
     index: &[u64],
     from_excluded: u64,
     limit: usize,
     out: &mut [u64],
-    answer: &mut [u64],
+    answer: &mut [u64; 2],
 ) -> u8
-    ensures { λ r. ⌜ Looking (λ x. GetOwnBlocks k (now (image .entry)) used (storeOf (now (store .entry))) (now (index .entry)) «from_excluded» limit x (now (out .entry)) (now (out .exit))) r (now (store .entry)) (now (answer .entry)) (now (store .exit)) (now (answer .exit)) ⌝ }
+    ensures { λ r. ⌜ GivesLookup
+        (getOwnBlocks (callOf k (now (image .entry)) used (storeOf (now (store .entry))) (now (index .entry))) «from_excluded» limit)
+        (now (store .entry)) r (now (store .exit)) (now (answer .exit)) (now (out .entry)) (now (out .exit)) ⌝ }
 {
     let s = node_store::store_of(store);
     let r = lookup_after::get_own_blocks(k, image, used, s, index, from_excluded, limit, out);
@@ -337,15 +376,17 @@ pub extern "C" fn kadzhomir_get_others_blocks(
     k: u64,
     image: &[u8],
     used: u64,
-    store: &mut [u64],
+    store: &mut [u64; 140],
     index: &[u64],
     from_excluded: u64,
     authority: u64,
     limit: usize,
     out: &mut [u64],
-    answer: &mut [u64],
+    answer: &mut [u64; 2],
 ) -> u8
-    ensures { λ r. ⌜ Looking (λ x. GetOthersBlocks k (now (image .entry)) used (storeOf (now (store .entry))) (now (index .entry)) «from_excluded» authority limit x (now (out .entry)) (now (out .exit))) r (now (store .entry)) (now (answer .entry)) (now (store .exit)) (now (answer .exit)) ⌝ }
+    ensures { λ r. ⌜ GivesLookup
+        (getOthersBlocks (callOf k (now (image .entry)) used (storeOf (now (store .entry))) (now (index .entry))) «from_excluded» authority limit)
+        (now (store .entry)) r (now (store .exit)) (now (answer .exit)) (now (out .entry)) (now (out .exit)) ⌝ }
 {
     let s = node_store::store_of(store);
     let r = lookup_after::get_others_blocks(
@@ -368,13 +409,16 @@ pub extern "C" fn kadzhomir_get_transaction(
     k: u64,
     image: &[u8],
     used: u64,
-    store: &mut [u64],
+    store: &mut [u64; 140],
     index: &[u64],
-    reference: &[u64],
+    reference: &[u64; 6],
     offset: u64,
-    answer: &mut [u64],
+    answer: &mut [u64; 4],
 ) -> u8
-    ensures { λ r. ⌜ Shows (getTransaction k (now (image .entry)) used (storeOf (now (store .entry))) (now (index .entry)) (record { block = referenceOf (now (reference .entry)); offset = offset })) r (now (store .entry)) (now (answer .entry)) (now (store .exit)) (now (answer .exit)) ⌝ }
+    ensures { λ r. ⌜ Shows
+        (getTransaction k (now (image .entry)) used (storeOf (now (store .entry))) (now (index .entry))
+        (record { block = referenceOf (now (reference .entry)); offset = offset }))
+        r (now (store .entry)) (now (store .exit)) (now (answer .exit)) ⌝ }
 {
     let s = node_store::store_of(store);
     let block = node_store::reference_at(reference, 0);
@@ -389,14 +433,17 @@ pub extern "C" fn kadzhomir_linked(
     k: u64,
     image: &[u8],
     used: u64,
-    store: &mut [u64],
+    store: &mut [u64; 140],
     index: &[u64],
     later: &[u8],
-    earlier: &[u64],
+    earlier: &[u64; 6],
     work: &mut [u64],
-    answer: &mut [u64],
+    answer: &mut [u64; 2],
 ) -> u8
-    ensures { λ r. ⌜ Links (linkedAnswer k (now (image .entry)) used (storeOf (now (store .entry))) (now (index .entry)) (now (later .entry)) (referenceOf (now (earlier .entry))) (length (now (work .entry)) / 8)) r (now (store .entry)) (now (answer .entry)) (now (store .exit)) (now (answer .exit)) ⌝ }
+    ensures { λ r. ⌜ Links
+        (linkedAnswer k (now (image .entry)) used (storeOf (now (store .entry))) (now (index .entry))
+        (now (later .entry)) (referenceOf (now (earlier .entry))) (length (now (work .entry)) / 8))
+        r (now (store .entry)) (now (store .exit)) (now (answer .exit)) ⌝ }
     ensures { λ _. ⌜ now (work .exit) ≡ zeros (length (now (work .entry))) ⌝ }
 {
     let s = node_store::store_of(store);
@@ -407,8 +454,8 @@ pub extern "C" fn kadzhomir_linked(
 
 // Decodes the block at a place.
 #[no_mangle]
-pub extern "C" fn kadzhomir_decode_block(bytes: &[u8], at: usize, answer: &mut [u64]) -> u8
-    ensures { λ r. ⌜ DecodesBlock (blockAnswer at (block (now (bytes .entry)) at)) r (now (answer .entry)) (now (answer .exit)) ⌝ }
+pub extern "C" fn kadzhomir_decode_block(bytes: &[u8], at: usize, answer: &mut [u64; 15]) -> u8
+    ensures { λ r. ⌜ DecodesBlock (blockAnswer at (block (now (bytes .entry)) at)) r (now (answer .exit)) ⌝ }
 {
     let d = blocks::decode_block(bytes, at);
     node_log::put_block(answer, d)
@@ -420,9 +467,10 @@ pub extern "C" fn kadzhomir_include_at(
     bytes: &[u8],
     place: usize,
     i: usize,
-    answer: &mut [u64],
+    answer: &mut [u64; 8],
 ) -> u8
-    ensures { λ r. ⌜ DecodesReference (referenceAnswer (parsed (now (bytes .entry)) (place + 56 * i))) r (now (answer .entry)) (now (answer .exit)) ⌝ }
+    ensures { λ r. ⌜ DecodesReference (referenceAnswer (parsed (now (bytes .entry)) (place + 56 * i)))
+        r (now (answer .exit)) ⌝ }
 {
     let d = types::include_at(bytes, place, i);
     node_log::put_decoded(answer, d)

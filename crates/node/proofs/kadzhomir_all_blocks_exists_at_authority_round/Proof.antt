@@ -1,4 +1,4 @@
--- `node::kadzhomir_all_blocks_exists_at_authority_round` meets its contract: it is what `store::all_blocks_exists_at_authority_round` answers, in words. Assumes nothing.
+-- `node::kadzhomir_all_blocks_exists_at_authority_round` meets its contract: the answer of the call beneath, in words. Assumes nothing.
 use borrow.Author.Needs.{needs}
 use Rattle.node.proofs.kadzhomir_all_blocks_exists_at_authority_round.Statement.{statement}
 use Rattle.node.proofs.kadzhomir_all_blocks_exists_at_authority_round.Tie as tie
@@ -13,11 +13,8 @@ all-blocks-exists-at-authority-round-requires c κs = search needs
 put-told-requires : tie.Need-put-told-requires
 put-told-requires c κs = search needs
 
-same-length : tie.Need-same-length
-same-length c = search needs
-
 returns : tie.Need-returns
-returns c = rw (c .before .before .before .before .all-blocks-exists-at-authority-round .ensures, c .before .before .before .before .before .store-of .ensures) at (c .before .before .put-told .ensures)
+returns c = rw (c .before .before .all-blocks-exists-at-authority-round .ensures, c .before .before .before .store-of .ensures) at (c .put-told .ensures)
 
 pub kadzhomir-all-blocks-exists-at-authority-round-spec : {M : Type 1} → statement M
 kadzhomir-all-blocks-exists-at-authority-round-spec =
@@ -26,5 +23,4 @@ kadzhomir-all-blocks-exists-at-authority-round-spec =
     store-of-requires
     all-blocks-exists-at-authority-round-requires
     put-told-requires
-    same-length
     returns)

@@ -1,4 +1,4 @@
--- `node::kadzhomir_block_exists` meets its contract: it is what `store::block_exists` answers, in words. Assumes nothing.
+-- `node::kadzhomir_block_exists` meets its contract: the answer of the call beneath, in words. Assumes nothing.
 use borrow.Author.Needs.{needs}
 use Rattle.node.proofs.kadzhomir_block_exists.Statement.{statement}
 use Rattle.node.proofs.kadzhomir_block_exists.Tie as tie
@@ -15,11 +15,8 @@ block-exists-requires c κs = search needs
 put-told-requires : tie.Need-put-told-requires
 put-told-requires c κs = search needs
 
-same-length : tie.Need-same-length
-same-length c = search needs
-
 returns : tie.Need-returns
-returns c = rw (c .before .before .before .before .block-exists .ensures, c .before .before .before .before .before .reference-at .ensures, c .before .before .before .before .before .before .store-of .ensures) at (c .before .before .put-told .ensures)
+returns c = rw (c .before .before .block-exists .ensures, c .before .before .before .reference-at .ensures, c .before .before .before .before .before .store-of .ensures) at (c .put-told .ensures)
 
 pub kadzhomir-block-exists-spec : {M : Type 1} → statement M
 kadzhomir-block-exists-spec =
@@ -29,5 +26,4 @@ kadzhomir-block-exists-spec =
     reference-at-requires
     block-exists-requires
     put-told-requires
-    same-length
     returns)

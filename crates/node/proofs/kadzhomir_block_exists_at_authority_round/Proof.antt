@@ -1,4 +1,4 @@
--- `node::kadzhomir_block_exists_at_authority_round` meets its contract: it is what `store::block_exists_at_authority_round` answers, in words. Assumes nothing.
+-- `node::kadzhomir_block_exists_at_authority_round` meets its contract: the answer of the call beneath, in words. Assumes nothing.
 use borrow.Author.Needs.{needs}
 use Rattle.node.proofs.kadzhomir_block_exists_at_authority_round.Statement.{statement}
 use Rattle.node.proofs.kadzhomir_block_exists_at_authority_round.Tie as tie
@@ -12,18 +12,10 @@ block-exists-at-authority-round-requires c κs = search needs
 put-told-requires : tie.Need-put-told-requires
 put-told-requires c κs = search needs
 
-same-length : tie.Need-same-length
-same-length c = search needs
-
 returns : tie.Need-returns
-returns c = rw (c .before .before .before .before .block-exists-at-authority-round .ensures, c .before .before .before .before .before .store-of .ensures) at (c .before .before .put-told .ensures)
+returns c = rw (c .before .before .block-exists-at-authority-round .ensures, c .before .before .before .store-of .ensures) at (c .put-told .ensures)
 
 pub kadzhomir-block-exists-at-authority-round-spec : {M : Type 1} → statement M
 kadzhomir-block-exists-at-authority-round-spec =
     tie.close
-    (tie.spec
-    store-of-requires
-    block-exists-at-authority-round-requires
-    put-told-requires
-    same-length
-    returns)
+    (tie.spec store-of-requires block-exists-at-authority-round-requires put-told-requires returns)

@@ -1,4 +1,4 @@
--- `node::kadzhomir_decode_block` meets its contract: it is what `blocks::decode_block` answers, in words. Assumes nothing.
+-- `node::kadzhomir_decode_block` meets its contract: the answer of the call beneath, in words. Assumes nothing.
 use borrow.Author.Needs.{needs}
 use Rattle.node.proofs.kadzhomir_decode_block.Statement.{statement}
 use Rattle.node.proofs.kadzhomir_decode_block.Tie as tie
@@ -9,12 +9,8 @@ decode-block-requires c κs = search needs
 put-block-requires : tie.Need-put-block-requires
 put-block-requires c κs = search needs
 
-same-length : tie.Need-same-length
-same-length c = search needs
-
 returns : tie.Need-returns
-returns c = rw (c .before .before .before .before .decode-block .ensures) at (c .before .before .put-block .ensures)
+returns c = rw (c .before .before .decode-block .ensures) at (c .put-block .ensures)
 
 pub kadzhomir-decode-block-spec : {M : Type 1} → statement M
-kadzhomir-decode-block-spec =
-    tie.close (tie.spec decode-block-requires put-block-requires same-length returns)
+kadzhomir-decode-block-spec = tie.close (tie.spec decode-block-requires put-block-requires returns)

@@ -1,4 +1,4 @@
--- `node::kadzhomir_get_block` meets its contract: it is what `lookup::get_block` answers, in words. Assumes nothing.
+-- `node::kadzhomir_get_block` meets its contract: the store, the answer in words, and the rows. Assumes nothing.
 use borrow.Author.Needs.{needs}
 use Rattle.node.proofs.kadzhomir_get_block.Statement.{statement}
 use Rattle.node.proofs.kadzhomir_get_block.Tie as tie
@@ -18,19 +18,10 @@ put-looked-requires c κs = search needs
 same-length : tie.Need-same-length
 same-length c = search needs
 
-same-length-2 : tie.Need-same-length-2
-same-length-2 c = search needs
-
-same-length-3 : tie.Need-same-length-3
-same-length-3 c = search needs
-
 returns : tie.Need-returns
 returns c =
-    record {
-      answer = c .before .before .before .before .before .before .before .before .before .get-block .result;
-      answers = rw (c .before .before .before .before .before .before .before .before .before .before .before .before .store-of .ensures, c .before .before .before .before .before .before .before .before .before .before .before .reference-at .ensures) at (c .before .before .before .before .before .before .before .before .before .get-block .ensures);
-      gives = c .before .before .before .before .put-looked .ensures;
-    }
+    let lookup = rw (c .before .before .before .before .before .before .before .before .before .store-of .ensures, c .before .before .before .before .before .before .before .reference-at .ensures) at (c .before .before .before .before .before .get-block .ensures) in
+    record { gives = rw (lookup .answer) at (c .put-looked .ensures); rows = lookup .words }
 
 pub kadzhomir-get-block-spec : {M : Type 1} → statement M
 kadzhomir-get-block-spec =
@@ -41,6 +32,4 @@ kadzhomir-get-block-spec =
     get-block-requires
     put-looked-requires
     same-length
-    same-length-2
-    same-length-3
     returns)

@@ -1,4 +1,4 @@
--- `node::kadzhomir_get_transaction` meets its contract: it is what `transaction::get_transaction` answers, in words. Assumes nothing.
+-- `node::kadzhomir_get_transaction` meets its contract: the answer of the call beneath, in words. Assumes nothing.
 use borrow.Author.Needs.{needs}
 use Rattle.node.proofs.kadzhomir_get_transaction.Statement.{statement}
 use Rattle.node.proofs.kadzhomir_get_transaction.Tie as tie
@@ -15,14 +15,8 @@ get-transaction-requires c κs = search needs
 put-transaction-requires : tie.Need-put-transaction-requires
 put-transaction-requires c κs = search needs
 
-same-length : tie.Need-same-length
-same-length c = search needs
-
-same-length-2 : tie.Need-same-length-2
-same-length-2 c = search needs
-
 returns : tie.Need-returns
-returns c = rw (c .before .before .before .before .before .before .before .get-transaction .ensures, c .before .before .before .before .before .before .before .before .reference-at .ensures, c .before .before .before .before .before .before .before .before .before .store-of .ensures) at (c .before .before .before .before .put-transaction .ensures)
+returns c = rw (c .before .before .before .get-transaction .ensures, c .before .before .before .before .reference-at .ensures, c .before .before .before .before .before .before .store-of .ensures) at (c .put-transaction .ensures)
 
 pub kadzhomir-get-transaction-spec : {M : Type 1} → statement M
 kadzhomir-get-transaction-spec =
@@ -32,6 +26,4 @@ kadzhomir-get-transaction-spec =
     reference-at-requires
     get-transaction-requires
     put-transaction-requires
-    same-length
-    same-length-2
     returns)

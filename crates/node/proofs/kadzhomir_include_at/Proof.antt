@@ -1,4 +1,4 @@
--- `node::kadzhomir_include_at` meets its contract: it is what `types::include_at` answers, in words. Assumes nothing.
+-- `node::kadzhomir_include_at` meets its contract: the answer of the call beneath, in words. Assumes nothing.
 use borrow.Author.Needs.{needs}
 use Rattle.node.proofs.kadzhomir_include_at.Statement.{statement}
 use Rattle.node.proofs.kadzhomir_include_at.Tie as tie
@@ -9,12 +9,8 @@ include-at-requires c κs = search needs
 put-decoded-requires : tie.Need-put-decoded-requires
 put-decoded-requires c κs = search needs
 
-same-length : tie.Need-same-length
-same-length c = search needs
-
 returns : tie.Need-returns
-returns c = rw (c .before .before .before .before .include-at .ensures) at (c .before .before .put-decoded .ensures)
+returns c = rw (c .before .before .include-at .ensures) at (c .put-decoded .ensures)
 
 pub kadzhomir-include-at-spec : {M : Type 1} → statement M
-kadzhomir-include-at-spec =
-    tie.close (tie.spec include-at-requires put-decoded-requires same-length returns)
+kadzhomir-include-at-spec = tie.close (tie.spec include-at-requires put-decoded-requires returns)

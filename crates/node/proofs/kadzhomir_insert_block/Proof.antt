@@ -1,4 +1,4 @@
--- `node::kadzhomir_insert_block` meets its contract: it is what `insert::insert_block` answers, in words. Assumes nothing.
+-- `node::kadzhomir_insert_block` meets its contract: the store, the answer in words, the log and the index. Assumes nothing.
 use borrow.Author.Needs.{needs}
 use Rattle.node.proofs.kadzhomir_insert_block.Statement.{statement}
 use Rattle.node.proofs.kadzhomir_insert_block.Tie as tie
@@ -18,19 +18,10 @@ same-length c = search needs
 same-length-2 : tie.Need-same-length-2
 same-length-2 c = search needs
 
-same-length-3 : tie.Need-same-length-3
-same-length-3 c = search needs
-
-same-length-4 : tie.Need-same-length-4
-same-length-4 c = search needs
-
 returns : tie.Need-returns
 returns c =
-    record {
-      answer = c .before .before .before .before .before .before .before .before .before .before .before .insert-block .result;
-      answers = rw (c .before .before .before .before .before .before .before .before .before .before .before .before .before .before .store-of .ensures) at (c .before .before .before .before .before .before .before .before .before .before .before .insert-block .ensures);
-      gives = c .before .before .before .before .put-inserted .ensures;
-    }
+    let insert = rw (c .before .before .before .before .before .before .before .before .before .before .store-of .ensures) at (c .before .before .before .before .before .before .before .insert-block .ensures) in
+    record { gives = rw (insert .answer) at (c .put-inserted .ensures); log = insert .log; rows = insert .rows }
 
 pub kadzhomir-insert-block-spec : {M : Type 1} → statement M
 kadzhomir-insert-block-spec =
@@ -41,6 +32,4 @@ kadzhomir-insert-block-spec =
     put-inserted-requires
     same-length
     same-length-2
-    same-length-3
-    same-length-4
     returns)

@@ -1,4 +1,4 @@
--- `node::kadzhomir_linked` meets its contract: it is what `linked::linked` answers, in words. Assumes nothing.
+-- `node::kadzhomir_linked` meets its contract: the answer in words, and the working rows. Assumes nothing.
 use borrow.Author.Needs.{needs}
 use Rattle.node.proofs.kadzhomir_linked.Statement.{statement}
 use Rattle.node.proofs.kadzhomir_linked.Tie as tie
@@ -18,14 +18,10 @@ put-linked-requires c κs = search needs
 same-length : tie.Need-same-length
 same-length c = search needs
 
-same-length-2 : tie.Need-same-length-2
-same-length-2 c = search needs
-
-same-length-3 : tie.Need-same-length-3
-same-length-3 c = search needs
-
 returns : tie.Need-returns
-returns c = (rw (c .before .before .before .before .before .before .before .before .before .linked .ensures .0, c .before .before .before .before .before .before .before .before .before .before .before .reference-at .ensures, c .before .before .before .before .before .before .before .before .before .before .before .before .store-of .ensures) at (c .before .before .before .before .put-linked .ensures), c .before .before .before .before .before .before .before .before .before .linked .ensures .1)
+returns c =
+    let linked = c .before .before .before .before .before .linked .ensures in
+    (rw (linked .0, c .before .before .before .before .before .before .before .reference-at .ensures, c .before .before .before .before .before .before .before .before .before .store-of .ensures) at (c .put-linked .ensures), linked .1)
 
 pub kadzhomir-linked-spec : {M : Type 1} → statement M
 kadzhomir-linked-spec =
@@ -36,6 +32,4 @@ kadzhomir-linked-spec =
     linked-requires
     put-linked-requires
     same-length
-    same-length-2
-    same-length-3
     returns)

@@ -36,7 +36,7 @@ cast-t30 c = search needs
 
 returns : tie.Need-returns
 unfolding blockWords keyWords digestWords
-returns c = 
+returns c =
     let a = c .before .before .before .before .args in
     record { number = refl; words = rw (c .before .before .key-of .ensures, flag-is (a .d .ok), flag-is (a .d .block .«epoch_marker»)) }
 

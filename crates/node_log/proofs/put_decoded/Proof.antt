@@ -33,7 +33,7 @@ array-read-t24 c = search needs
 
 returns : tie.Need-returns
 unfolding referenceWords keyWords digestWords
-returns c = 
+returns c =
     let a = c .before .before .args in
     record { number = refl; words = rw (c .before .key-of .ensures, flag-is (a .d .ok)) }
 

@@ -17,8 +17,7 @@ returns : tie.Need-returns
 unfolding openedAfter
 returns c =
     let a = c .before .before .args in
-    let number = c .before .open-number .ensures in
-    (
+    let number = c .before .open-number .ensures in (
       number,
       sym (unless-refused (λ (m : ℕ). a .out .now) (openedWords (a .size) (a .own) (a .recovered .now)) (openedNumber (a .size) (a .own) (a .recovered .now)) (λ z. c .if1 .taken (number ∙ z))),
     )
@@ -31,12 +30,11 @@ unfolding openedAfter
 returns-2 c =
     let a = c .before .before .before .before .before .args in
     let passed = sym (c .before .before .before .before .open-number .ensures) ∙ c .before .before .before .if1 .left in
-    let all : length (a .out .now) ≡ 140 = c .before .before .put-opened-arg .given .0 .1 in
-    (
+    let all : length (a .out .now) ≡ 140 = c .before .before .put-opened-arg .given .0 .1 in (
       sym passed,
       c .put-opened .ensures
-      ∙ over-all (a .out .now) (openedWords (a .size) (a .own) (a .recovered .now)) (all ∙ sym (opened-long (a .size) (a .own) (a .recovered .now)))
-      ∙ sym (unless-passed (λ (m : ℕ). a .out .now) (openedWords (a .size) (a .own) (a .recovered .now)) (openedNumber (a .size) (a .own) (a .recovered .now)) passed),
+          ∙ over-all (a .out .now) (openedWords (a .size) (a .own) (a .recovered .now)) (all ∙ sym (opened-long (a .size) (a .own) (a .recovered .now)))
+          ∙ sym (unless-passed (λ (m : ℕ). a .out .now) (openedWords (a .size) (a .own) (a .recovered .now)) (openedNumber (a .size) (a .own) (a .recovered .now)) passed),
     )
 
 pub open-store-spec : {M : Type 1} → statement M

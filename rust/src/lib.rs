@@ -5,7 +5,7 @@
 //! by a [`Refusal`] why not; none panics on the log's bytes.
 //!
 //! - [`Log`]: append, read, walk, recover.
-//! - [`Recovered`]: what a log holds.
+//! - [`Recovered`]: what a log holds, and the log to go on with.
 //! - [`BlockStore`]: insert, cleanup and lookups.
 #![deny(unsafe_code, missing_debug_implementations)]
 

@@ -1,4 +1,4 @@
-use crate::ffi::{self, View};
+use crate::ffi::{self, StoreWords, View};
 use crate::recovered::Recovered;
 use crate::refusal::{served, served_at};
 use crate::{Refusal, RefusedAt, WalPosition};
@@ -31,7 +31,7 @@ impl Entry {
     }
 }
 
-/// Why a walk stopped: at the log's end, at zeros, or at an entry that is not whole.
+/// Why a walk stopped: at the log's end, at zeros, or at an entry that is not whole. A refused walk has no stop.
 #[derive(Clone, Copy, Debug, PartialEq, Eq, Hash)]
 pub enum Stop {
     End,
@@ -40,6 +40,7 @@ pub enum Stop {
 }
 
 impl Stop {
+    /// Of a walk or a recovery that was not refused: the code of a refused one, 3, is no stop.
     pub(crate) fn of(word: u64) -> Self {
         [Stop::End, Stop::Zeros, Stop::Torn][word as usize]
     }
@@ -49,7 +50,7 @@ impl Stop {
 #[derive(Clone, Copy, Debug, PartialEq, Eq, Hash)]
 pub struct Walked {
     pub stop: Stop,
-    /// The end of the last whole entry: where to go on appending.
+    /// The end of the last whole entry. Recover the log to go on appending there ([`Recovered::writer`]).
     pub end: WalPosition,
     /// The bytes behind it.
     pub unread: u64,
@@ -99,6 +100,11 @@ impl<B> Log<B> {
     pub fn image_mut(&mut self) -> &mut B {
         &mut self.image
     }
+
+    /// The image, given back.
+    pub fn into_image(self) -> B {
+        self.image
+    }
 }
 
 impl<B: AsRef<[u8]>> Log<B> {
@@ -142,7 +148,8 @@ impl<B: AsRef<[u8]>> Log<B> {
         Ok(Walked { stop: Stop::of(answer[2]), end: WalPosition(answer[3]), unread: answer[4] })
     }
 
-    /// Recovers what the log holds, in tables that are made as long as needed.
+    /// Recovers what the log holds, in tables that are made as long as needed. A refusal has its number and the start of the
+    /// entry concerned. Go on with [`Recovered::writer`]: what lies behind the last whole entry would hide what is appended here.
     pub fn recover(&self, committee_size: u64, own: u64) -> Result<Recovered, RefusedAt> {
         Recovered::grown(self.view(), committee_size, own)
     }
@@ -163,7 +170,7 @@ impl<B: AsRef<[u8]> + AsMut<[u8]>> Log<B> {
     }
 
     /// Inserts a block; the store's words and index rows are lent.
-    pub(crate) fn insert(&mut self, store: &mut [u64], index: &mut [u64], own: bool, bytes: &[u8]) -> Result<WalPosition, Refusal> {
+    pub(crate) fn insert(&mut self, store: &mut StoreWords, index: &mut [u64], own: bool, bytes: &[u8]) -> Result<WalPosition, Refusal> {
         let mut answer = [0; 3];
         served(ffi::insert(self.k, self.used, self.image.as_mut(), store, index, own, bytes, &mut answer))?;
         self.used = answer[2];
@@ -186,7 +193,7 @@ impl Entries<'_> {
         self.end
     }
 
-    /// Why the walk stopped, once it has.
+    /// Why the walk stopped, once it has; none where it was refused.
     pub fn stop(&self) -> Option<Stop> {
         self.stop
     }
@@ -205,6 +212,7 @@ impl Iterator for Entries<'_> {
             self.done = true;
             return Some(Err(refused));
         }
+        // The kind: an entry, or one more than the stop's code.
         if answer[1] != 0 {
             self.done = true;
             self.stop = Some(Stop::of(answer[1] - 1));

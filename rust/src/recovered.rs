@@ -1,11 +1,9 @@
-use crate::ffi::{self, View};
-use crate::log::Stop;
-use crate::refusal::served_at;
-use crate::{BlockReference, Refusal, RefusedAt, WalPosition};
+use crate::ffi::{self, RecoveredWords, View};
+use crate::refusal::{served, served_at};
+use crate::{BlockReference, Log, Refusal, RefusedAt, Stop, WalPosition};
 use std::ops::Range;
 
 pub(crate) const ROW: usize = 8;
-const WORDS: usize = 161;
 
 /// What waits for the own block that is to take it up.
 #[derive(Clone, Copy, Debug, PartialEq, Eq, Hash)]
@@ -29,7 +27,7 @@ pub struct Indexed {
     pub loaded: bool,
 }
 
-/// What a log holds: the answer of recovery, with its tables.
+/// What a log holds: the answer of a recovery that was not refused, with its tables.
 ///
 /// ```
 /// use kadzhomir::{Log, Stop};
@@ -45,7 +43,8 @@ pub struct Indexed {
 /// ```
 #[derive(Clone, Debug, PartialEq, Eq)]
 pub struct Recovered {
-    pub(crate) words: [u64; WORDS],
+    pub(crate) words: RecoveredWords,
+    k: u64,
     pub(crate) committee_size: u64,
     pub(crate) own: u64,
     tables: [Vec<u64>; 4],
@@ -54,13 +53,13 @@ pub struct Recovered {
 impl Recovered {
     pub(crate) fn in_rows(view: View, committee_size: u64, own: u64, rows: [usize; 4]) -> Result<Self, RefusedAt> {
         let mut tables = rows.map(|n| vec![0; n * ROW]);
-        let mut words = [0; WORDS];
+        let mut words = [0; 161];
         let number = ffi::recover(view, committee_size, own, &mut tables, &mut words);
         served_at(number, words[1])?;
         for (table, count) in tables.iter_mut().zip(&words[5..9]) {
             table.truncate(*count as usize * ROW);
         }
-        Ok(Self { words, committee_size, own, tables })
+        Ok(Self { words, k: view.k, committee_size, own, tables })
     }
 
     /// Lends more rows each time that they are too few. An entry has 16 bytes at least and a committed reference 56, so that no
@@ -76,6 +75,31 @@ impl Recovered {
         }
     }
 
+    /// The log to go on with, on the image that was recovered: appends and inserts follow its last whole entry, and overwrite
+    /// what lies behind it.
+    ///
+    /// ```
+    /// use kadzhomir::{Log, Stop};
+    ///
+    /// let mut log = Log::new(16, vec![0; 4096], 0);
+    /// log.append(4, b"first")?;
+    /// log.append(4, b"second")?;
+    ///
+    /// // A power cut in the second entry.
+    /// let cut = Log::new(16, log.into_image(), 30);
+    /// let recovered = cut.recover(4, 0)?;
+    /// assert_eq!((recovered.stop(), recovered.end().0, recovered.unread()), (Stop::Torn, 21, 9));
+    /// let mut log = recovered.writer(cut.into_image())?;
+    /// assert_eq!(log.append(4, b"third")?.0, 21);
+    /// assert_eq!(log.walk()?.stop, Stop::End);
+    /// # Ok::<(), Box<dyn std::error::Error>>(())
+    /// ```
+    pub fn writer<B>(&self, image: B) -> Result<Log<B>, Refusal> {
+        let mut used = 0;
+        served(ffi::writer(&self.words, &mut used))?;
+        Ok(Log::new(self.k, image, used))
+    }
+
     fn rows(&self, table: usize) -> impl ExactSizeIterator<Item = &[u64]> {
         self.tables[table].chunks_exact(ROW)
     }
@@ -89,7 +113,7 @@ impl Recovered {
         Stop::of(self.words[2])
     }
 
-    /// The end of the last whole entry: where to go on appending.
+    /// The end of the last whole entry: where [`Recovered::writer`] goes on.
     pub fn end(&self) -> WalPosition {
         WalPosition(self.words[3])
     }

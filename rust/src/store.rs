@@ -1,10 +1,9 @@
-use crate::ffi::{self, Lent};
+use crate::ffi::{self, Lent, StoreWords};
 use crate::recovered::{found, indexed, last_seen, Indexed, Recovered, ROW};
 use crate::refusal::served;
 use crate::{BlockReference, Log, Refusal, WalPosition};
 use std::ops::Range;
 
-const WORDS: usize = 140;
 const ROWS: usize = 2;
 const LOADS: usize = 3;
 const OWN_BLOCK: usize = 4;
@@ -36,8 +35,10 @@ pub struct Found {
 ///     bytes
 /// }
 ///
-/// let mut log = Log::new(16, vec![0; 4096], 0);
-/// let mut store = BlockStore::open(&log.recover(4, 0)?);
+/// let log = Log::new(16, vec![0; 4096], 0);
+/// let recovered = log.recover(4, 0)?;
+/// let mut store = BlockStore::open(&recovered)?;
+/// let mut log = recovered.writer(log.into_image())?;
 /// store.insert_block(&mut log, &block(1, 3))?;
 /// let own = [&u64::MAX.to_le_bytes()[..], &block(0, 4)].concat(); // the next entry, then the block
 /// store.insert_own_block(&mut log, &own)?;
@@ -57,16 +58,19 @@ pub struct Found {
 /// ```
 #[derive(Clone, Debug, PartialEq, Eq)]
 pub struct BlockStore {
-    words: [u64; WORDS],
+    words: StoreWords,
     index: Vec<u64>,
 }
 
 impl BlockStore {
-    /// The store that a recovery leaves.
-    pub fn open(recovered: &Recovered) -> Self {
-        let mut words = [0; WORDS];
-        ffi::open(recovered.committee_size, recovered.own, &recovered.words, &mut words);
-        Self { words, index: recovered.tables()[3].clone() }
+    /// The store that a recovery leaves. Insert into the log that [`Recovered::writer`] gives.
+    ///
+    /// Refused with the recovery's number, or with [`Refusal::Store`] for its committee. Neither happens to what [`Log::recover`]
+    /// answered, which has passed both checks.
+    pub fn open(recovered: &Recovered) -> Result<Self, Refusal> {
+        let mut words = [0; 140];
+        served(ffi::open(recovered.committee_size, recovered.own, &recovered.words, &mut words))?;
+        Ok(Self { words, index: recovered.tables()[3].clone() })
     }
 
     // ---- What changes the store
@@ -220,7 +224,7 @@ impl BlockStore {
     }
 
     /// Lends rows for the answer, twice as many each time that they are too few: a refused lookup counts no load.
-    fn look(&mut self, few: usize, call: impl Fn(Lent, &mut [u64], &mut [u64]) -> u8) -> Result<Vec<Found>, Refusal> {
+    fn look(&mut self, few: usize, call: impl Fn(Lent, &mut [u64], &mut [u64; 2]) -> u8) -> Result<Vec<Found>, Refusal> {
         let most = self.len_expensive();
         let mut rows = few;
         loop {

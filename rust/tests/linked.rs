@@ -24,7 +24,7 @@ fn block(r: BlockReference, includes: &[BlockReference]) -> Vec<u8> {
 #[test]
 fn chains() {
     let mut log = Log::new(16, vec![0; 1 << 14], 0);
-    let mut store = BlockStore::open(&log.recover(4, 0).unwrap());
+    let mut store = BlockStore::open(&log.recover(4, 0).unwrap()).unwrap();
     store.insert_block(&mut log, &block(reference(1, 1), &[])).unwrap();
     store.insert_block(&mut log, &block(reference(2, 1), &[])).unwrap();
     store.insert_block(&mut log, &block(reference(1, 2), &[reference(2, 1)])).unwrap();

@@ -120,7 +120,7 @@ fn tables_grow() {
         log.append(2, &[0; 8]).unwrap_or_else(|r| panic!("entry {i}: {r}"));
     }
     assert_eq!(log.recover(4, 0).unwrap().pending().count(), 5000);
-    let mut store = BlockStore::open(&Log::new(16, vec![0; 1 << 20], 0).recover(100, 0).unwrap());
+    let mut store = BlockStore::open(&Log::new(16, vec![0; 1 << 20], 0).recover(100, 0).unwrap()).unwrap();
     for authority in 1..100 {
         store.insert_block(&mut log, &block(authority, 1)).unwrap();
     }
@@ -140,7 +140,7 @@ fn read() {
 #[test]
 fn store() {
     let mut log = log(&[(3, &own_block(0, 3))]);
-    let mut store = BlockStore::open(&log.recover(4, 0).unwrap());
+    let mut store = BlockStore::open(&log.recover(4, 0).unwrap()).unwrap();
     let before = (log.image().to_vec(), log.used(), store.clone());
     assert_eq!(number(store.insert_block(&mut log, &block(1, 1)[..160])), 9);
     assert_eq!(number(store.insert_own_block(&mut log, &[0; 7])), 10);

@@ -4,6 +4,8 @@
 // name their own entry as the next one, or MAX, by turns. Each block includes up to 3 blocks of the round before it.
 // Layouts are those of docs/LAYOUTS.md. The bytes and the checksums are made here, without the library's code.
 #define _POSIX_C_SOURCE 199309L
+#include "kadzhomir.h"
+
 #include <math.h>
 #include <stdint.h>
 #include <stdio.h>
@@ -11,15 +13,7 @@
 #include <string.h>
 #include <time.h>
 
-// The calls of crates/node. A slice is a pointer and a number of elements.
-uint8_t kadzhomir_recover(uint64_t k, const uint8_t *image, size_t image_len, uint64_t used, uint64_t size, uint64_t own,
-    uint64_t *pending, size_t pending_len, uint64_t *unprocessed, size_t unprocessed_len,
-    uint64_t *committed, size_t committed_len, uint64_t *index, size_t index_len, uint64_t *answer, size_t answer_len);
-uint8_t kadzhomir_walk(uint64_t k, const uint8_t *image, size_t image_len, uint64_t used, uint64_t *answer, size_t answer_len);
-uint8_t kadzhomir_append(uint64_t k, uint64_t used, uint8_t *image, size_t image_len, uint32_t tag,
-    const uint8_t *payload, size_t payload_len, uint64_t *answer, size_t answer_len);
-
-enum { K = 28, AUTHORITIES = 4, OWN = 0, INCLUDES = 3, ROW = 8, MOST_BYTES = 16 + 8 + 161 + INCLUDES * 56, ANSWER = 161 };
+enum { K = 28, AUTHORITIES = 4, OWN = 0, INCLUDES = 3, ROW = KADZHOMIR_ROW, MOST_BYTES = 16 + 8 + 161 + INCLUDES * 56 };
 
 static void fail(const char *what) {
     fprintf(stderr, "growth: %s\n", what);
@@ -160,16 +154,16 @@ static void drop_log(struct log *l) {
 // The same log by appends: the same bytes.
 static void check_appends(const struct log *l) {
     uint8_t *image = lend(l->used, 1), payload[MOST_BYTES];
-    uint64_t used = 0, answer[3];
+    uint64_t used = 0, answer[KADZHOMIR_APPENDED];
     for (uint64_t j = 0; j < l->n; j++) {
         uint64_t i = l->order[j];
         size_t len = put_payload(payload, i, used);
-        check(kadzhomir_append(K, used, image, l->used, tag_of(i), payload, len, answer, 3) == 0, "an append was refused");
+        check(kadzhomir_append(K, used, image, l->used, tag_of(i), payload, len, answer) == 0, "an append was refused");
         check(answer[0] == 0 && answer[1] == l->start[i], "an append answers another position");
         used = answer[2];
     }
     check(used == l->used && memcmp(image, l->image, used) == 0, "the appends write other bytes");
-    check(kadzhomir_append(K, used, image, used, 1, payload, 0, answer, 3) == 4, "an append past the image is not refused");
+    check(kadzhomir_append(K, used, image, used, 1, payload, 0, answer) == 4, "an append past the image is not refused");
     check(answer[0] == 4 && answer[2] == used, "a refused append moves used");
     free(image);
 }
@@ -181,18 +175,18 @@ struct tables {
     uint64_t *pending, *unprocessed, *committed, *index;
 };
 
-static uint64_t answer[ANSWER];
+static uint64_t answer[KADZHOMIR_RECOVERED];
 
 static uint8_t recover(const struct log *l, const struct tables *t) {
     return kadzhomir_recover(K, l->image, l->used, l->used, AUTHORITIES, OWN, t->pending, t->words, t->unprocessed, t->words,
-        t->committed, t->words, t->index, t->words, answer, ANSWER);
+        t->committed, t->words, t->index, t->words, answer);
 }
 
 // What recovery must answer of the log.
 static void check_recovered(const struct log *l, const struct tables *t) {
     uint64_t highest = (l->n - 1) / AUTHORITIES + 1;
     check(answer[0] == 0 && answer[1] == 0, "recovery was refused");
-    check(answer[2] == 0 && answer[3] == l->used && answer[4] == 0, "the walk does not end at used");
+    check(answer[2] == KADZHOMIR_STOP_END && answer[3] == l->used && answer[4] == 0, "the walk does not end at used");
     check(answer[5] == l->pending, "the pending rows are other ones");
     check(answer[6] == l->n && answer[7] == 0 && answer[8] == l->n, "a table has another number of rows");
     check(answer[9] == 1 && answer[12] == 0 && answer[15] == 0 && answer[18] == 0, "a state or a leader is invented");
@@ -236,9 +230,9 @@ static void measure(uint64_t n, enum order order, int rounds) {
         check(number == 0, "recovery was refused");
         check_recovered(&l, &t);
         double t2 = now_ms();
-        number = kadzhomir_walk(K, l.image, l.used, l.used, answer, 5);
+        number = kadzhomir_walk(K, l.image, l.used, l.used, answer);
         double t3 = now_ms();
-        check(number == 0 && answer[2] == 0 && answer[3] == l.used, "the walk does not end at used");
+        check(number == 0 && answer[2] == KADZHOMIR_STOP_END && answer[3] == l.used, "the walk does not end at used");
         if (i == 0) continue; // the first touches the pages
         took(&whole, t1 - t0);
         took(&walk, t3 - t2);

@@ -207,7 +207,7 @@ fn rows(n: u64) -> [usize; 4] {
 }
 
 fn recover_port(log: &Log<Vec<u8>>, n: u64) -> kadzhomir::BlockStore {
-    kadzhomir::BlockStore::open(&log.recover_in_rows(AUTHORITIES, 0, rows(n)).unwrap())
+    kadzhomir::BlockStore::open(&log.recover_in_rows(AUTHORITIES, 0, rows(n)).unwrap()).unwrap()
 }
 
 fn recovery_and_lookups() {

@@ -160,7 +160,7 @@ impl Logs {
         match (rust, port) {
             (Ok(rust), Ok(port)) => {
                 same_state(t, &answer_of(&rust, &Entries::of(&self.reader, &self.writer), size), &port);
-                let store = kadzhomir::BlockStore::open(&port);
+                let store = kadzhomir::BlockStore::open(&port).unwrap_or_else(|r| t.differ("open", &format!("{r}")));
                 Some(Stores { size, rust: rust.block_store, metrics, port: store })
             }
             (Err(panic), _) if panic.left_over() => {

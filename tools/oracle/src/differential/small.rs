@@ -205,10 +205,11 @@ fn cut_everywhere(t: &mut Tally, m: &mut Maker, logs: &Logs) {
     for cut in places(used, &ends) {
         let mut image = whole.clone();
         image[cut as usize..].fill(m.r.gen());
-        let port =
-            Log::new(K, image, cut).recover(m.size as u64, m.own).unwrap_or_else(|r| t.differ("cuts", &format!("cut at {cut}: {r}")));
+        let log = Log::new(K, image, cut);
+        let port = log.recover(m.size as u64, m.own).unwrap_or_else(|r| t.differ("cuts", &format!("cut at {cut}: {r}")));
+        let writer = port.writer(log.into_image()).unwrap_or_else(|r| t.differ("cuts", &format!("writer after a cut at {cut}: {r}")));
         let end = ends.iter().copied().filter(|e| *e <= cut).max().unwrap_or(0);
-        t.same("cut: E, unread", (end, cut - end), (port.end().0, port.unread()));
+        t.same("cut: E, unread, writer", (end, cut - end, end), (port.end().0, port.unread(), writer.used()));
         if rust.as_ref().map(|(e, _)| *e) != Some(end) {
             rust = Some((end, opened(&whole[..end as usize], m.size, m.own)));
         }

@@ -23,7 +23,7 @@
 #include <stdint.h>
 
 /* Words of a table's row, of a store and of a reference. A store: committee size, own authority, index rows counted,
-   loads, last own block (there, reference), highest round, 128 last seen rounds. */
+   loads, the index's own block (there, reference), highest round, 128 last seen rounds. */
 #define KADZHOMIR_ROW 8
 #define KADZHOMIR_STORE 140
 #define KADZHOMIR_REFERENCE 6
@@ -90,7 +90,7 @@ uint8_t kadzhomir_walk(uint64_t k, const uint8_t *image, size_t image_len, uint6
 
 /* Recovers what a log holds, for a committee of `size` and the authority `own`, into four tables whose old contents are
    not read. answer: 0 to 4 as of the walk; 5 to 8 the rows of pending, unprocessed, committed and index; 9, 12, 15 last
-   own block, state, committed state (there, place, bytes); 18 last committed leader, 25 last own block (there,
+   own block, state, committed state (there, place, bytes); 18 last committed leader, 25 the index's own block (there,
    reference); 32 highest round; 33 to 160 the last seen rounds. Refused: number, start (0 for 1, 2 and 18),
    KADZHOMIR_STOP_REFUSED, then zeros, and the tables are all zero. Checks: 1, 2, 18 (committee); of each entry 5, 6, 7,
    8, then 9, 10 or 12, then 13, 14, 15; last 11. */

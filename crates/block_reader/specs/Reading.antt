@@ -1,4 +1,5 @@
--- Reading a block. Document 01, the order of checks: "A query .. for each block it reads, in answer order, a read's numbers, 8, and 9 or 10".
+-- Reading a block. Document 01, the order of checks: "A query .. for each block it reads, in answer order, a read's numbers, 8, and 9 or
+-- 10".
 use mathlib.Core.List.{List}
 use Prim.Native.Nat.{ℕ, _+_, _-_}
 use lib.Dec.{eqb}

@@ -1,6 +1,6 @@
--- Request 11, "Four damaged bytes never pass": "if an entry reads well and only its payload is then changed, within four consecutive bytes, in
--- at least one bit, reading it gives 7, for every payload length and every exponent". `Request-11`, at the end, is what is proved; `Limits` says
--- what is not promised.
+-- Request 11, "Four damaged bytes never pass": "if an entry reads well and only its payload is then changed, within four consecutive
+-- bytes, in at least one bit, reading it gives 7, for every payload length and every exponent". `Request-11`, at the end, is what is
+-- proved; `Limits` says what is not promised.
 use mathlib.Core.Path.{_≡_}
 use mathlib.Core.List.{List, [], _∷_, _++_}
 use Prim.Native.Nat.{ℕ, _+_, _≤_, _<_}
@@ -22,8 +22,8 @@ use Rattle.replay.specs.Recovery.{Lent, scan, scanned, replayed, recover, refus
 abbrev pub DiffersAt : List ℕ → List ℕ → ℕ → Type 0
 DiffersAt s t i = getD s i 0 ≡ getD t i 0 → ⊥
 
--- A burst error: t is the image s after a change that lies in a payload, the n bytes from index `at` on, and within `width` consecutive bytes. That
--- run may begin before the payload or end behind it, so that a payload shorter than `width` may change as a whole.
+-- A burst error: t is the image s after a change that lies in a payload, the n bytes from index `at` on, and within `width` consecutive
+-- bytes. That run may begin before the payload or end behind it, so that a payload shorter than `width` may change as a whole.
 pub record Burst (width at n : ℕ) (s t : List ℕ) : Type 0 where
   pub same-length : length s ≡ length t
   -- "only its payload is then changed"
@@ -36,8 +36,8 @@ pub record Burst (width at n : ℕ) (s t : List ℕ) : Type 0 where
 
 -- ---- Read
 
--- "if an entry reads well": `wal::read` answers it, at p. Its payload is the `len` bytes behind the 16 of the header. All checks of a read have
--- passed then, so that k, used and p need no hypotheses of their own.
+-- "if an entry reads well": `wal::read` answers it, at p. Its payload is the `len` bytes behind the 16 of the header. All checks of a
+-- read have passed then, so that k, used and p need no hypotheses of their own.
 abbrev pub ReadDetects : ℕ → Type 0
 ReadDetects width =
     (k : ℕ) (s : List ℕ) → AllBytes s → (used p : ℕ) (e : WalEntry) → readAnswer k s used p ≡ Found·Entry e
@@ -51,8 +51,8 @@ pub record Detected (k : ℕ) (t : List ℕ) (used : ℕ) (before : List Entry) 
   pub walks : walk k t used ≡ record { entries = before; ending = Ending.refused 7 (a .start) }
   -- what `wal::walk` answers
   pub answers : walkAnswer k t used ≡ Walked·Refused 7 (record { 0 = a .start })
-  -- Recovery gives what its checks give for the entries `before`, "in log order", and the walk's 7 behind them. `recovery::recover` answers by
-  -- `recover`, and a refused one leaves its tables all zero.
+  -- Recovery gives what its checks give for the entries `before`, "in log order", and the walk's 7 behind them. `recovery::recover`
+  -- answers by `recover`, and a refused one leaves its tables all zero.
   pub recovers : (size own : ℕ) (lent : Lent) → recover k t used size own lent
       ≡ unless (committeeCheck size own) (λ n. refused n 0)
       (replayed size own lent (record { entries = before; ending = Ending.refused 7 (a .start) }))
@@ -60,7 +60,8 @@ pub record Detected (k : ℕ) (t : List ℕ) (used : ℕ) (before : List Entry) 
   pub seven : (size own : ℕ) (lent : Lent) (l : List ReplayEntry) → committeeCheck size own ≡ 0 → scan size own lent [] before ≡ scanned l
       → recover k t used size own lent ≡ refused 7 (a .start)
   -- and no recovery accepts t, whatever the committee and the tables
-  pub never : (size own : ℕ) (lent : Lent) (word : Stop) (end : ℕ) (l : List ReplayEntry) → recover k t used size own lent ≡ recovered word end l → ⊥
+  pub never : (size own : ℕ) (lent : Lent) (word : Stop) (end : ℕ) (l : List ReplayEntry)
+      → recover k t used size own lent ≡ recovered word end l → ⊥
 
 -- For every image whose walk lists the entry a, however that walk ends, and every burst in a's payload.
 abbrev pub WalkDetects : ℕ → Type 0

@@ -1,5 +1,5 @@
--- What request 11 does not promise: changes after which an entry still reads, with another tag or payload. The rows with `refused 7` are changes
--- for which it does.
+-- What request 11 does not promise: changes after which an entry still reads, with another tag or payload. The rows with `refused 7` are
+-- changes for which it does.
 use mathlib.Core.List.{List, [], _∷_, _++_}
 use Prim.Native.Nat.{ℕ, _+_}
 use lib.ListN.{length, take, drop}
@@ -23,8 +23,8 @@ given c = readAt 6 (written (entryBytes 2 (c .payload)) (c .at) (c .bytes)) (len
 unfoldable pub readsAs : ℕ → List ℕ → Read
 readsAs tag payload = found (record { start = 0; tag = tag; payload = payload })
 
--- `12345` exclusive or 41 06 71 db 01. The first 33 of these bits, each byte's least significant first, are the coefficients of the generator
--- G(x) from x^32 to x^0, and the other seven are 0: a multiple of G(x), so that the checksum of `123456789` stays cbf43926.
+-- `12345` exclusive or 41 06 71 db 01. The first 33 of these bits, each byte's least significant first, are the coefficients of the
+-- generator G(x) from x^32 to x^0, and the other seven are 0: a multiple of G(x), so that the checksum of `123456789` stays cbf43926.
 unfoldable pub five : List ℕ
 five = 0x70 ∷ 0x34 ∷ 0x42 ∷ 0xef ∷ 0x34 ∷ []
 

@@ -10,7 +10,7 @@ use Rattle.filters.specs.Filters.{byReference, byRound, byAuthorRound}
 use Rattle.query.specs.declared.Looked.{Looked}
 use Rattle.query.specs.Query.{Call, callOf, callNumber, Question, asking, QueryAnswers}
 
--- ---- What each asks: `looked` and `lookedWords` (crates/query/specs/Query.antt) are its answer and the words of its answer table
+-- ---- What each asks: `looked` and `lookedTable` (crates/query/specs/Query.antt) are its answer and the words of its answer table
 
 abbrev pub getBlock : Call → BlockReference → Question
 getBlock c reference = asking c (callNumber c) (byReference reference)

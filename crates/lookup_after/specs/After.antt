@@ -17,7 +17,7 @@ afterCheck after = pick (eqb after (2 ^ 64 - 1)) 19 0
 unfoldable pub afterNumber : Call → ℕ → ℕ
 afterNumber c after = unless (callNumber c) (λ n. n) (afterCheck after)
 
--- ---- What each asks: `looked` and `lookedWords` (crates/query/specs/Query.antt) are its answer and the words of its answer table
+-- ---- What each asks: `looked` and `lookedTable` (crates/query/specs/Query.antt) are its answer and the words of its answer table
 
 abbrev pub getOwnBlocks : Call → ℕ → ℕ → Question
 getOwnBlocks c after limit = asking c (afterNumber c after) (ownAfter (c .store .authority) after limit)

@@ -8,10 +8,9 @@ use Rattle.wal_writer.specs.declared.WalWriter.{WalWriter}
 use Rattle.replay.specs.Recovery.{recover}
 use Rattle.replay_log.specs.Answers.{recoveredOf, Tables, rowsLent, tablesAfter}
 use Rattle.insert.specs.Insert.{insertedAnswer, insertedImage, insertedIndex}
-use Rattle.query.specs.Query.{Question, looked, lookedWords}
+use Rattle.query.specs.Query.{Question, looked, lookedTable}
 use Rattle.wal.specs.declared.Walked.{Walked}
 use Rattle.wal.specs.Answers.{walkedNumber}
-use Rattle.recovered.specs.declared.Recovered.{Recovered}
 use Rattle.node_words.specs.Words.{walkedWords, recoveredWords}
 use Rattle.node_store.specs.Stores.{storeOf}
 use Rattle.node_log.specs.Answers.{appendNumber, appendWords, Gives}
@@ -35,7 +34,8 @@ pub record GivesAppend (w : WalWriter) (tag : ℕ) (payload : List ℕ) (n : ℕ
 
 -- of an insert: the number, the words of the answer and of the store, and the image and the index. `words` are the store's before the
 -- call, `words′` those after it.
-pub record GivesInsert (w : WalWriter) (tag : ℕ) (payload image index words : List ℕ) (n : ℕ) (words′ a image′ index′ : List ℕ) : Type 0 where
+pub record GivesInsert (w : WalWriter) (tag : ℕ) (payload image index words : List ℕ)
+    (n : ℕ) (words′ a image′ index′ : List ℕ) : Type 0 where
   pub gives : Logs (insertedAnswer w (storeOf words) tag payload image index) n words words′ a
   pub log : image′ ≡ insertedImage w (storeOf words) tag payload image index
   pub rows : index′ ≡ insertedIndex w (storeOf words) tag payload image index
@@ -43,4 +43,4 @@ pub record GivesInsert (w : WalWriter) (tag : ℕ) (payload image index words : 
 -- of a lookup that asks q: the number, the words of the answer and of the store, and the rows found. `out` is the table lent for them.
 pub record GivesLookup (q : Question) (words : List ℕ) (n : ℕ) (words′ a out out′ : List ℕ) : Type 0 where
   pub gives : Looks (looked q (length out)) n words words′ a
-  pub rows : out′ ≡ lookedWords q (length out)
+  pub rows : out′ ≡ lookedTable q (length out)

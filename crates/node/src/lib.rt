@@ -1,7 +1,8 @@
 // The node's calls for programs in C or Rust (include/kadzhomir.h). A slice is passed as a pointer and a number
-// of elements, an array of fixed length as a pointer, and what a call may write overlaps nothing else: nothing
-// asks that of a caller in C. Fixed answers, stores and references are arrays, so that none can be too short. A
-// store is words that the caller keeps. Each call answers the refusal's number, 0 where there is none.
+// of elements, an array of fixed length as a pointer, and what a call may write overlaps nothing else; no
+// compiler holds a caller in C to that. Fixed answers, stores and references are arrays, so that no contract has
+// to say what a short one gets. A store is words that the caller keeps. Each call answers the refusal's number,
+// 0 where there is none.
 ghost use mathlib.Core.Path.{_≡_};
 ghost use Prim.Native.Nat.{_+_, _*_, _/_};
 ghost use lib.ListN.{length};
@@ -123,8 +124,9 @@ pub extern "C" fn kadzhomir_recover(
     walked.number()
 }
 
-// Puts the store that a recovery for this committee and own authority leaves: its answer is `recovered`. A
-// refused recovery opens none, and a refusal leaves the store's words as they are.
+// Puts the store that a recovery for this committee and own authority leaves: its answer is `recovered`.
+// Refused with the recovery's number, then with 18 for the committee; a refusal leaves the store's words as they
+// are.
 #[no_mangle]
 pub extern "C" fn kadzhomir_open(
     size: u64,

@@ -8,7 +8,7 @@ use native.Mathlib.Omega.{arith}
 use lib.Arith.{mod-mul}
 use lib.Dec.{lit<}
 use borrow.Author.Tests.{le-leb}
-use lib.ListN.{length, getD, take, drop}
+use lib.ListN.{length, getD, take}
 use lib.Seq.{take-length}
 use Rattle.laws.specs.Pick.{pick}
 use Rattle.laws.specs.Bytes.{bytesAt, AllBytes}
@@ -17,7 +17,6 @@ use Rattle.types.specs.declared.BlockReference.{BlockReference}
 use Rattle.index.specs.Keys.{ofBe, Digested, digestWords, keyWords}
 use Rattle.laws.proofs.AllBytes.{bytes-part}
 use Rattle.index.proofs.BigEndian.{ofBe-lt}
-use Rattle.index.specs.declared.StoreSummary.{StoreSummary}
 use Rattle.wal.specs.declared.Walked.{Walked}
 use Rattle.wal.specs.declared.Walked.the-variants.{Stopped, Refused}
 use Rattle.wal.specs.Answers.{walkedNumber}

@@ -86,6 +86,6 @@ openedWords size own v = size ∷ own ∷ getD v 8 0 ∷ 0 ∷ wordsAt v 25 136
 unfoldable pub openedNumber : ℕ → ℕ → List ℕ → ℕ
 openedNumber size own v = unless (recoveryNumber v) (λ n. n) (committeeCheck size own)
 
--- "a refused .. changes nothing": w are the words of the store before the call
+-- a refusal leaves the words w that the store had before the call
 unfoldable pub openedAfter : ℕ → ℕ → List ℕ → List ℕ → List ℕ
 openedAfter size own v w = unless (openedNumber size own v) (λ m. w) (openedWords size own v)

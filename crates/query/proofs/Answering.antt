@@ -16,9 +16,9 @@ use Rattle.store.proofs.Checked.{Checked, call-checked}
 use Rattle.query.specs.declared.Looked.{Looked}
 use Rattle.query.specs.declared.Collected.{Collected}
 use Rattle.block_reader.specs.Reading.{BlockRead}
-use Rattle.query.specs.Query.{Blocks, failed, all, also, followedBy, readRows, unloaded, counted, Query, answers, fitting, lookedUp, answerWords, Call, callNumber, Question, query, looked, lookedWords, QueryAnswers}
+use Rattle.query.specs.Query.{Blocks, failed, all, also, followedBy, readRows, unloaded, counted, Query, answers, fitting, lookedUp, answerWords, Call, callNumber, Question, query, looked, lookedTable, QueryAnswers}
 use Rattle.query.specs.Query as queries
-use Rattle.query.specs.Collecting.{collectedOf, NoZero, HoldsRows, Gives, FinishesQuery}
+use Rattle.query.specs.Collecting.{collectedOf, NoZero, HoldsRows, GivesQuery, FinishesQuery}
 use Rattle.block_reader.proofs.Reading.{NumberedBlock, is-refused, is-got, blockAt-numbered}
 
 -- ---- The checks of a call
@@ -67,7 +67,7 @@ fails lent n = refl
 
 -- what was asked for is nothing to a refusal
 refusal : (store : BlockStore) (chosen : List (List ℕ)) (n : ℕ) {r : Looked} {out out′ : List ℕ} → r ≡ lookedUp store [] (queries.Query.refused n)
-    → out′ ≡ zeros (length out) → Gives store chosen (queries.Query.refused n) r out out′
+    → out′ ≡ zeros (length out) → GivesQuery store chosen (queries.Query.refused n) r out out′
 unfolding lookedUp answerWords
 refusal store chosen n is clear = record { answer = is; words = clear }
 
@@ -87,7 +87,7 @@ module _ (store : BlockStore) (c : Collected) {r : Looked} {out out′ : List �
   finishes-refused found is clear chosen (failed n) made numbered holds =
       let same : queries.Query.refused (c .number) ≡ fitting (length out / 8) (failed n) =
       ap queries.Query.refused (collected-number chosen n made) ∙ sym (fails (length out / 8) n) in
-      subst (λ (q : Query). Gives store chosen q r out out′) same (refusal store chosen (c .number) is clear)
+      subst (λ (q : Query). GivesQuery store chosen q r out out′) same (refusal store chosen (c .number) is clear)
   finishes-refused found is clear chosen (all rows) made numbered holds = absurd (found (collected-all chosen rows made .0))
 
   module _ (passed : c .number ≡ 0) where
@@ -96,7 +96,7 @@ module _ (store : BlockStore) (c : Collected) {r : Looked} {out out′ : List �
     finishes-full more is clear chosen (failed n) made numbered holds =
         absurd (omega (arith, collected-number chosen n made, numbered))
     finishes-full more is clear chosen (all rows) made numbered holds =
-        subst (λ (q : Query). Gives store chosen q r out out′)
+        subst (λ (q : Query). GivesQuery store chosen q r out out′)
         (sym (too-many (length out / 8) rows (omega (arith, collected-all chosen rows made .1))))
         (refusal store chosen 15 is clear)
 
@@ -108,7 +108,7 @@ module _ (store : BlockStore) (c : Collected) {r : Looked} {out out′ : List �
     finishes-answers room is same chosen (all rows) made numbered holds =
         let all-of = collected-all chosen rows made in
         let fit : length rows ≤ length out / 8 = omega (arith, all-of .1) in
-        subst (λ (q : Query). Gives store chosen q r out out′) (sym (fits-all (length out / 8) rows fit))
+        subst (λ (q : Query). GivesQuery store chosen q r out out′) (sym (fits-all (length out / 8) rows fit))
         (record {
           answer = is ∙ ap₂ (λ (n u : ℕ). record { number = 0; rows = n; store = counted store u }) (all-of .1) (all-of .2);
           words = same ∙ holds fit;
@@ -121,8 +121,8 @@ pub cleared : (t : List ℕ) {t′ : List ℕ} → t′ ≡ zeros (length t) →
 cleared t e = e ∙ ap zeros (sym (ap length e ∙ length-zeros (length t)))
 
 module _ (q : Question) {r : Looked} {out out′ : List ℕ} where
-  gives-answers : {x : Query} → x ≡ query q (length out / 8) → Gives (q .call .store) (q .chosen) x r out out′ → QueryAnswers q r out out′
-  unfolding looked lookedWords
+  gives-answers : {x : Query} → x ≡ query q (length out / 8) → GivesQuery (q .call .store) (q .chosen) x r out out′ → QueryAnswers q r out out′
+  unfolding looked lookedTable
   gives-answers same h =
       record {
         answer = h .answer ∙ ap (lookedUp (q .call .store) (q .chosen)) same;
@@ -147,7 +147,7 @@ module _ (call : Call) (chosen : List (List ℕ)) {r : Looked} {out out′ : Lis
   unfolding query unless
   query-collected {c} {mid} long made holds finishes =
       let blocks : Blocks = readRows (call .exponent) (call .image) (call .used) chosen in
-      let done : Gives (call .store) chosen (fitting (length mid / 8) blocks) r mid out′ =
+      let done : GivesQuery (call .store) chosen (fitting (length mid / 8) blocks) r mid out′ =
       finishes chosen blocks made (reads-numbered (call .exponent) (call .image) (call .used) chosen) holds in
       gives-answers (record { call = call; number = 0; chosen = chosen }) (ap (λ (m : ℕ). fitting (m / 8) blocks) long)
       (record { answer = done .answer; words = done .words ∙ ap (λ (m : ℕ). answerWords m (fitting (length mid / 8) blocks)) long })
@@ -161,5 +161,5 @@ module _ (call : Call) (chosen : List (List ℕ)) {r : Looked} {out out′ : Lis
         answer =
             h .answer ∙ ap₂ (λ (n : ℕ) (l : List (List ℕ)). looked (record { call = call; number = n; chosen = l }) (length out)) (sym passed) same;
         words =
-            h .words ∙ ap₂ (λ (n : ℕ) (l : List (List ℕ)). lookedWords (record { call = call; number = n; chosen = l }) (length out)) (sym passed) same;
+            h .words ∙ ap₂ (λ (n : ℕ) (l : List (List ℕ)). lookedTable (record { call = call; number = n; chosen = l }) (length out)) (sym passed) same;
       }

@@ -32,7 +32,7 @@ unfoldable pub answerPut : List ℕ → ℕ → List ℕ → List ℕ
 answerPut out i row = pick (ltb i (length out / 8)) (written out (8 * i) row) out
 
 -- the answer of a query that comes to x, and its table
-pub record Gives (store : BlockStore) (chosen : List (List ℕ)) (x : Query) (r : Looked) (out out′ : List ℕ) : Type 0 where
+pub record GivesQuery (store : BlockStore) (chosen : List (List ℕ)) (x : Query) (r : Looked) (out out′ : List ℕ) : Type 0 where
   pub answer : r ≡ lookedUp store chosen x
   pub words : out′ ≡ answerWords (length out) x
 
@@ -40,4 +40,4 @@ pub record Gives (store : BlockStore) (chosen : List (List ℕ)) (x : Query) (r 
 abbrev pub FinishesQuery : BlockStore → Collected → Looked → List ℕ → List ℕ → Type 0
 FinishesQuery store c r out out′ =
     (chosen : List (List ℕ)) (b : Blocks) → c ≡ collectedOf chosen b → NoZero b → HoldsRows b out
-    → Gives store chosen (fitting (length out / 8) b) r out out′
+    → GivesQuery store chosen (fitting (length out / 8) b) r out out′

@@ -111,10 +111,10 @@ query q lent = unless (q .number) refused (fitting lent (readRows (q .call .expo
 unfoldable pub looked : Question → ℕ → Looked
 looked q words = lookedUp (q .call .store) (q .chosen) (query q (words / 8))
 
-unfoldable pub lookedWords : Question → ℕ → List ℕ
-lookedWords q words = answerWords words (query q (words / 8))
+unfoldable pub lookedTable : Question → ℕ → List ℕ
+lookedTable q words = answerWords words (query q (words / 8))
 
 -- the contract of a query: `out` is the table lent for the answer, `out′` what it holds after the call
 pub record QueryAnswers (q : Question) (r : Looked) (out out′ : List ℕ) : Type 0 where
   pub answer : r ≡ looked q (length out)
-  pub words : out′ ≡ lookedWords q (length out)
+  pub words : out′ ≡ lookedTable q (length out)

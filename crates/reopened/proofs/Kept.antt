@@ -18,7 +18,7 @@ use Rattle.store.specs.declared.BlockStore.{BlockStore}
 use Rattle.store.specs.Store as store
 use Rattle.store.specs.Store.{openNumber, openedOf}
 use Rattle.cut.specs.Cut.{LogImage}
-use Rattle.reopened.specs.Passing.{Opened, Kept}
+use Rattle.reopened.specs.Passing.{OpenedPasses, Kept}
 use Rattle.reopened.proofs.Classifying.{readsOf}
 use Rattle.reopened.proofs.References.{Every, index-every, fine-below}
 use Rattle.reopened.proofs.Passing.{agree-passes}
@@ -47,8 +47,8 @@ module _ (used own e : ℕ) (r : Recovered) (word : Stop) (l : List ReplayEntry)
   unfolding walkedOf writerBehind
   goes-on k = ap (writerBehind k) walked
 
-pub opened : Opened
-opened k image all used size own before after r word e l is answers =
+pub opened-passes : OpenedPasses
+opened-passes k image all used size own before after r word e l is answers =
     let h = carries-open k size own image all used before after r word e l is answers in
     let committee : committeeCheck size own ≡ 0 = open-committee k size own image all used before after r word e l is answers in
     record {

@@ -1,6 +1,6 @@
--- The calls on a store that a node can come to (`Reachable`) pass the checks with which each of them begins: 1, 2 and 18. Document 01, 18: "in a lent
--- store, more index rows counted than lent, rows not strictly ascending by round, authority, digest, or one with an authority not below the
--- size". And what its index names is in the log.
+-- The calls on a store that a node can come to (`Reachable`) pass the checks with which each of them begins: 1, 2 and 18. Document 01,
+-- 18: "in a lent store, more index rows counted than lent, rows not strictly ascending by round, authority, digest, or one with an
+-- authority not below the size". And what its index names is in the log.
 use mathlib.Core.Path.{_≡_}
 use mathlib.Core.List.{List, [], _∷_}
 use Prim.Native.Nat.{ℕ, _≤_}
@@ -23,8 +23,8 @@ use Rattle.block_reader.specs.Reading.{got, blockAt}
 use Rattle.cut.specs.Cut.{LogImage}
 use Rattle.reopened.specs.Reopened.{Reachable}
 
--- The store that a recovery leaves, of a log of whatever bytes: a call passes with the log as it was lent to recovery, and with the log up to E,
--- from where the node goes on.
+-- The store that a recovery leaves, of a log of whatever bytes: a call passes with the log as it was lent to recovery, and with the log
+-- up to E, from where the node goes on.
 pub record Passes (k used size own : ℕ) (image index : List ℕ) (r : Recovered) (e : ℕ) : Type 0 where
   pub resumes : e ≤ used
   -- `BlockStore::open` opens it, and `Recovered::writer` gives the writer at E
@@ -33,9 +33,10 @@ pub record Passes (k used size own : ℕ) (image index : List ℕ) (r : Recovere
   pub as-lent : callCheck k used (length image) (openedOf size own (r .replay)) index ≡ 0
   pub from-end : callCheck k e (length image) (openedOf size own (r .replay)) index ≡ 0
 
-abbrev pub Opened : Type 0
-Opened =
-    (k : ℕ) (image : List ℕ) → AllBytes image → (used size own : ℕ) (before after : Tables) (r : Recovered) (word : Stop) (e : ℕ) (l : List ReplayEntry)
+abbrev pub OpenedPasses : Type 0
+OpenedPasses =
+    (k : ℕ) (image : List ℕ) → AllBytes image
+    → (used size own : ℕ) (before after : Tables) (r : Recovered) (word : Stop) (e : ℕ) (l : List ReplayEntry)
     → recover k image used size own (rowsLent before) ≡ recovered word e l → Answers used own (recovered word e l) before r after
     → Passes k used size own image (after .index) r e
 
@@ -59,8 +60,8 @@ abbrev pub AllThere : ℕ → LogImage → List (List ℕ) → Type 0
 AllThere k log [] = Unit {0}
 AllThere k log (row ∷ rows) = There k log row × AllThere k log rows
 
--- Every row of a store of `Reachable` names a block that is in the log, whole, at the row's position: no lookup is refused for an indexed block that it
--- reads.
+-- Every row of a store of `Reachable` names a block that is in the log, whole, at the row's position: no lookup is refused for an indexed
+-- block that it reads.
 abbrev pub FoundThere : Type 0
 FoundThere =
     (k : ℕ) → 6 ≤ k → k ≤ 28 → (size own : ℕ) (log : LogImage) (s : BlockStore) (index : List ℕ) → Reachable k size own log s index

@@ -27,14 +27,15 @@ use Rattle.insert.specs.Insert.{Inserts}
 use Rattle.cut.specs.PlainLog.{Append}
 use Rattle.cut.specs.Cut.{LogImage, afterAppend}
 
--- The logs that a node can come to, each with its store and the table of its index; k, size and own are the same throughout. A refused append,
--- insert, cleanup or lookup changes neither log, store nor index, and a store that is opened from a refused recovery is not meant.
+-- The logs that a node can come to, each with its store and the table of its index; k, size and own are the same throughout. A refused
+-- append, insert, cleanup or lookup changes neither log, store nor index, and a refused recovery opens no store.
 pub data Reachable (k size own : ℕ) : LogImage → BlockStore → List ℕ → Type 0 where
   -- an empty log in an image of whatever bytes, and no block yet, in index rows of whatever words
   new : (image index : List ℕ) → Reachable k size own (record { used = 0; image = image }) (openedOf size own emptyReplay) index
-  -- The node starts from a log of whatever bytes: as it was left, cut by a power failure, with zeros behind it, or written by another program.
-  -- It has what recovery gives of `used` bytes, and goes on from E. The tables are those lent to recovery, before and after it.
-  opens : (image : List ℕ) → AllBytes image → (used : ℕ) (before after : Tables) (r : Recovered) (word : Stop) (e : ℕ) (l : List ReplayEntry)
+  -- The node starts from a log of whatever bytes: as it was left, cut by a power failure, with zeros behind it, or written by another
+  -- program. It has what recovery gives of `used` bytes, and goes on from E. The tables are those lent to recovery, before and after it.
+  opens : (image : List ℕ) → AllBytes image
+      → (used : ℕ) (before after : Tables) (r : Recovered) (word : Stop) (e : ℕ) (l : List ReplayEntry)
       → recover k image used size own (rowsLent before) ≡ recovered word e l → Answers used own (recovered word e l) before r after
       → Reachable k size own (record { used = e; image = image }) (openedOf size own (r .replay)) (after .index)
   -- An append, accepted or not, of something else than a block: "every 32-bit tag" but the two that insert logs, since a block that is only
@@ -83,18 +84,21 @@ AllClassified (x ∷ l) = (classify (x .entry) ≡ item (x .item)) × AllClassif
 abbrev pub entriesIn : List ReplayEntry → List Entry
 entriesIn l = map (λ (x : ReplayEntry). x .entry) l
 
--- Why such a recovery is refused, with its number and start: for entries that are no blocks, for the tables or for the committee. Never for a
--- block (9, 10, 13, 14) or for damage (5, 6, 7). `entries` are those that the walk lists.
+-- Why such a recovery is refused, with its number and start: for entries that are no blocks, for the tables or for the committee. Never
+-- for a block (9, 10, 13, 14) or for damage (5, 6, 7). `entries` are those that the walk lists.
 pub data Cause (size own : ℕ) (lent : Lent) (entries : List Entry) : ℕ → ℕ → Type 0 where
   -- 18, with 0
   by-committee : {n : ℕ} → 0 < n → committeeCheck size own ≡ n → Cause size own lent entries n 0
   -- 8 or 12: an entry with this tag, or a commit that does not decode
-  by-entry : {n : ℕ} → (n ≡ 8) ⊎ (n ≡ 12) → (a : Entry) → List·Memᴰ a entries → classify a ≡ refuse n → Cause size own lent entries n (a .start)
+  by-entry : {n : ℕ} → (n ≡ 8) ⊎ (n ≡ 12) → (a : Entry) → List·Memᴰ a entries → classify a ≡ refuse n
+      → Cause size own lent entries n (a .start)
   -- 15: the rows of the entries up to x do not fit
-  by-rows : (before : List ReplayEntry) (x : ReplayEntry) (later : List Entry) → entriesIn (before ++ (x ∷ [])) ++ later ≡ entries → AllClassified (before ++ (x ∷ []))
+  by-rows : (before : List ReplayEntry) (x : ReplayEntry) (later : List Entry) → entriesIn (before ++ (x ∷ [])) ++ later ≡ entries
+      → AllClassified (before ++ (x ∷ []))
       → rowsCheck lent (before ++ (x ∷ [])) ≡ 15 → Cause size own lent entries 15 (x .entry .start)
   -- 11: a payload that is still pending does not decode
-  by-payload : (l : List ReplayEntry) → entriesIn l ≡ entries → AllClassified l → (x : ReplayEntry) → List·Memᴰ x (pending l) → x .item ≡ isPayload
+  by-payload : (l : List ReplayEntry) → entriesIn l ≡ entries → AllClassified l → (x : ReplayEntry) → List·Memᴰ x (pending l)
+      → x .item ≡ isPayload
       → payload (x .entry .payload) 0 ≡ bad → Cause size own lent entries 11 (x .entry .start)
 
 abbrev pub Refusals : Type 0

@@ -61,7 +61,7 @@ openedOf size own r =
 unfoldable pub opened : ℕ → ℕ → Recovered → Opened
 opened size own r = record { number = openNumber (r .walked) size own; store = openedOf size own (r .replay) }
 
--- The last seen round of any authority: 0 from 128 on. A field of the store's value, as the other getters give: no log and no row is read, so that
--- 1, 2 and 18 do not arise.
+-- The last seen round of any authority: 0 from 128 on. A field of the store's value, as the other getters give: no log and no row is
+-- read, so that 1, 2 and 18 do not arise.
 unfoldable pub lastSeenOf : BlockStore → ℕ → ℕ
 lastSeenOf s authority = getD (s .summary .«last_seen_by_authority») authority 0

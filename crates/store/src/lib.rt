@@ -47,7 +47,8 @@ fn open_number(walked: Walked, committee_size: u64, authority: AuthorityIndex) -
 }
 
 impl BlockStore {
-    // The store that a recovery for this committee and own authority leaves. A refused recovery opens none.
+    // The store that a recovery for this committee and own authority leaves. Refused with the recovery's number,
+    // then with 18 for the committee; the store beside a number other than 0 is none.
     pub fn open(committee_size: u64, authority: AuthorityIndex, recovered: Recovered) -> Opened
         ensures { λ r. ⌜ r ≡ opened «committee_size» authority recovered ⌝ }
     {

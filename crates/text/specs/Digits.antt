@@ -5,8 +5,8 @@ use mathlib.Core.List.{List, [], _∷_, _++_}
 use lib.Dec.{ltb}
 use Rattle.laws.specs.Parse.{joined}
 
--- n in base ten, by at most `fuel` divisions by ten. antt computes only the case of an `elim` that is taken, so the recursion ends where n is
--- below ten, however large the fuel is.
+-- n in base ten, by at most `fuel` divisions by ten. antt computes only the case of an `elim` that is taken, so the recursion ends where
+-- n is below ten, however large the fuel is.
 unfoldable pub digits : ℕ → ℕ → List ℕ
 digits zero n = (48 + n) ∷ []
 digits (suc fuel) n = elim (ltb n 10) [ true ↦ (48 + n) ∷ [] | false ↦ digits fuel (n / 10) ++ ((48 + n % 10) ∷ []) ]

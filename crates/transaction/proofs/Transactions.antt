@@ -30,7 +30,7 @@ use Rattle.block_reader.proofs.Reading.{blockAt-numbered, told-refused}
 use Rattle.query.proofs.Collecting.{one-unloaded}
 use Rattle.filters.proofs.Queries.{at-reference}
 use Rattle.transaction.specs.declared.FoundTransaction.{FoundTransaction}
-use Rattle.transaction.specs.Transaction.{shareIn, placed, refusedAnswer, transactionOf, transactionAnswer}
+use Rattle.transaction.specs.Transaction.{shareIn, placed, refusedTransaction, transactionOf, transactionAnswer}
 use Rattle.transaction.proofs.Shares.{spanEnd, share-within}
 use Rattle.block_reader.proofs.Blocks.{block-got, block-within}
 
@@ -49,7 +49,7 @@ module _ (at : ℕ) {t : Span} where
 
 module _ (k : ℕ) (s : List ℕ) (used : ℕ) (store : BlockStore) (offset : ℕ) (r : List ℕ) where
   of-refused : {n : ℕ} → blockAt k s used (getD r 6 0) ≡ reading.BlockRead.refused n
-      → refusedAnswer n store ≡ transactionOf k s used store offset (r ∷ [])
+      → refusedTransaction n store ≡ transactionOf k s used store offset (r ∷ [])
   unfolding transactionOf
   of-refused is = sym (rw is)
 
@@ -70,7 +70,7 @@ module _ (k : ℕ) (s : List ℕ) (used : ℕ) (store : BlockStore) (offset : �
   position : getD (rowAt w i) 6 0 ≡ getD w (8 * i + 6) 0
   position = word-rowAt w i 6 (lit< tt)
 
-  pub row-refused : (b .number ≡ 0 → ⊥) → refusedAnswer (b .number) store ≡ transactionOf k s used store offset (rowAt w i ∷ [])
+  pub row-refused : (b .number ≡ 0 → ⊥) → refusedTransaction (b .number) store ≡ transactionOf k s used store offset (rowAt w i ∷ [])
   row-refused found =
       of-refused k s used store offset (rowAt w i)
       (ap (blockAt k s used) position
@@ -112,14 +112,14 @@ module _ (w : List ℕ) (count : ℕ) (fits : 8 * count ≤ length w) (ascends :
 -- ---- A call
 
 module _ (k : ℕ) (s : List ℕ) (used : ℕ) (store : BlockStore) (offset : ℕ) (n : ℕ) (rows : List (List ℕ)) where
-  pub call-refused : {m : ℕ} → m ≡ n → (m ≡ 0 → ⊥) → refusedAnswer m store ≡ transactionAnswer n k s used store offset rows
+  pub call-refused : {m : ℕ} → m ≡ n → (m ≡ 0 → ⊥) → refusedTransaction m store ≡ transactionAnswer n k s used store offset rows
   unfolding transactionAnswer
   call-refused is found =
-      ap (λ (m : ℕ). refusedAnswer m store) is
-      ∙ sym (unless-refused (λ m. refusedAnswer m store) (transactionOf k s used store offset rows) n (λ e. found (is ∙ e)))
+      ap (λ (m : ℕ). refusedTransaction m store) is
+      ∙ sym (unless-refused (λ m. refusedTransaction m store) (transactionOf k s used store offset rows) n (λ e. found (is ∙ e)))
 
   pub call-passed : n ≡ 0 → {chosen : List (List ℕ)} → chosen ≡ rows → transactionOf k s used store offset chosen ≡ transactionAnswer n k s used store offset rows
   unfolding transactionAnswer
   call-passed none same =
       ap (transactionOf k s used store offset) same
-      ∙ sym (unless-passed (λ m. refusedAnswer m store) (transactionOf k s used store offset rows) n none)
+      ∙ sym (unless-passed (λ m. refusedTransaction m store) (transactionOf k s used store offset rows) n none)

@@ -39,8 +39,8 @@ unfoldable pub placed : ℕ → Span → Span
 placed at Nothing = Nothing
 placed at (At p n) = At (at + p) n
 
-unfoldable pub refusedAnswer : ℕ → BlockStore → FoundTransaction
-refusedAnswer n s = record { number = n; share = Nothing; store = s }
+unfoldable pub refusedTransaction : ℕ → BlockStore → FoundTransaction
+refusedTransaction n s = record { number = n; share = Nothing; store = s }
 
 -- of the row with the locator's reference, if there is one: the block is read, and its load counted, before the offset is looked at
 unfoldable pub transactionOf : ℕ → List ℕ → ℕ → BlockStore → ℕ → List (List ℕ) → FoundTransaction
@@ -48,14 +48,14 @@ transactionOf k s used store offset [] = record { number = 0; share = Nothing; s
 transactionOf k s used store offset (r ∷ rows) = from (blockAt k s used (getD r 6 0))
   where
     from : BlockRead → FoundTransaction
-    from (reading.BlockRead.refused n) = refusedAnswer n store
+    from (reading.BlockRead.refused n) = refusedTransaction n store
     from (reading.BlockRead.got reference at n) =
         record { number = 0; share = placed at (shareIn (bytesAt s at n) offset); store = counted store (unloaded (r ∷ [])) }
 
 -- `n` is the number of 1, 2 and 18, `chosen` the rows with the locator's reference
 unfoldable pub transactionAnswer : ℕ → ℕ → List ℕ → ℕ → BlockStore → ℕ → List (List ℕ) → FoundTransaction
 transactionAnswer n k s used store offset chosen =
-    unless n (λ m. refusedAnswer m store) (transactionOf k s used store offset chosen)
+    unless n (λ m. refusedTransaction m store) (transactionOf k s used store offset chosen)
 
 -- the call: k, the image and used, the store and its index, and the locator
 abbrev pub getTransaction : ℕ → List ℕ → ℕ → BlockStore → List ℕ → TransactionLocator → FoundTransaction

@@ -9,7 +9,7 @@ ghost use lib.ListN.{length};
 ghost use Rattle.bincode.specs.Cursors.{nextElement};
 ghost use Rattle.types.specs.Records.{statement};
 ghost use Rattle.rows.specs.Rows.{rowAt};
-ghost use Rattle.transaction.specs.Transaction.{shareOf, shareIn, refusedAnswer, transactionOf, getTransaction};
+ghost use Rattle.transaction.specs.Transaction.{shareOf, shareIn, refusedTransaction, transactionOf, getTransaction};
 use bincode::Cursor;
 use rows::Place;
 use state::Span;
@@ -65,7 +65,7 @@ fn share_at(block: &[u8], c: Cursor) -> Span
 }
 
 fn refuse(number: u8, store: BlockStore) -> FoundTransaction
-    ensures { λ r. ⌜ r ≡ refusedAnswer number store ⌝ }
+    ensures { λ r. ⌜ r ≡ refusedTransaction number store ⌝ }
 {
     FoundTransaction {
         number,

@@ -37,8 +37,8 @@ pub stored : (s : List ℕ) (x : ℕ) → length s ≡ 8 → written s 0 (le 8 x
 stored s x h = written-whole s (le 8 x) (length-le 8 x ∙ sym h)
 
 -- four parts fed one after the other
-pub fed-four : (c : ℕ) {one two three four : ℕ} (a b d e : List ℕ) → one ≡ feed c a → two ≡ feed one b → three ≡ feed two d → four ≡ feed three e
-    → four ≡ feed c (a ++ b ++ d ++ e)
+pub fed-four : (c : ℕ) {one two three four : ℕ} (a b d e : List ℕ)
+    → one ≡ feed c a → two ≡ feed one b → three ≡ feed two d → four ≡ feed three e → four ≡ feed c (a ++ b ++ d ++ e)
 fed-four c a b d e first second third fourth =
     fourth
     ∙ ap (λ (n : ℕ). feed n e)

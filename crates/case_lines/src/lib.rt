@@ -1,7 +1,6 @@
 // What the programs that run cases share: the numbers and parts of a case's bytes, words of a line on the standard output, and
 // checksums over words, so that a line can speak of a whole table.
 ghost use mathlib.Core.Path.{_≡_};
-ghost use mathlib.Core.List.{_++_};
 ghost use Prim.Native.Nat.{_+_};
 ghost use lib.Dec.{ltb};
 ghost use lib.ListN.{getD};

@@ -36,8 +36,9 @@ returns c =
     let first = second .before in
     let a = first .before .before .before .args in
     let r = a .reference in
+    let there = ap (λ (w : ℕ). feed (a .register) (le 8 w)) (bool-word (a .there)) in
     fed-four (a .register) (le 8 (pick (a .there) 1 0)) (le 8 (r .authority)) (le 8 (r .round)) (r .digest .0)
-    (first .feed-word .ensures ∙ ap (λ (w : ℕ). feed (a .register) (le 8 w)) (bool-word (a .there))) (second .feed-word2 .ensures) (third .feed-word3 .ensures) (c .update .ensures)
+    (first .feed-word .ensures ∙ there) (second .feed-word2 .ensures) (third .feed-word3 .ensures) (c .update .ensures)
 
 pub feed-reference-spec : {M : Type 1} → statement M
 feed-reference-spec =

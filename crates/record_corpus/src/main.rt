@@ -3,6 +3,12 @@
 // those decode, and a checksum over a 0 for each that does not and a 1 and the bytes encoded again
 // for each that does, and the values of some fields. `stdin` and `stdout` were made by tools/oracle with the Rust's own types and
 // bincode 1.3.3: the records, and what the Rust says of each.
+use case_lines::end_line;
+use case_lines::hex;
+use case_lines::more;
+use case_lines::number;
+use case_lines::part;
+use case_lines::plus;
 use commits::Commit;
 use encode::Encoded;
 use encode_blocks::BlockFields;
@@ -16,26 +22,8 @@ pub struct Tally {
     pub accepted: u64,
 }
 
-// The bytes from a up to e, or none where they are not all there.
-fn part(s: &[u8], a: usize, e: usize) -> &[u8] {
-    if a <= e {
-        if e <= s.len() {
-            return &s[a..e];
-        }
-    }
-    &s[..0]
-}
-
 fn minus(a: usize, b: usize) -> usize {
     if a < b { 0 } else { a - b }
-}
-
-fn plus(a: usize, b: usize) -> usize {
-    if 0xffff_ffff_ffff_ffff - a < b {
-        a
-    } else {
-        a + b
-    }
 }
 
 fn statement_again(s: &[u8], out: &mut [u8]) -> Encoded {
@@ -166,10 +154,6 @@ fn again(kind: u8, s: &[u8], out: &mut [u8]) -> Encoded {
     commit_again(s, out)
 }
 
-fn more(n: u64) -> u64 {
-    if n < 0xffff_ffff { n + 1 } else { n }
-}
-
 fn ask(kind: u8, s: &[u8], tally: Tally) -> Tally {
     let mut space = [0u8; 1024];
     let out: &mut [u8] = &mut space;
@@ -243,16 +227,6 @@ fn ask_damaged(kind: u8, s: &mut [u8], tally: Tally) -> Tally {
     t
 }
 
-fn number(n: u64) {
-    io::print_decimal(STDOUT_FILENO, n);
-    io::write_all(STDOUT_FILENO, b" ");
-}
-
-fn field(n: u64) {
-    io::write_all(STDOUT_FILENO, b" ");
-    io::print_decimal(STDOUT_FILENO, n);
-}
-
 fn show_block(s: &[u8], at: usize) {
     let d = blocks::decode_block(s, at);
     let b = d.block;
@@ -260,32 +234,32 @@ fn show_block(s: &[u8], at: usize) {
     let includes = b.includes;
     let statements = b.statements;
     let time = b.meta_creation_time_ns;
-    field(reference.authority);
-    field(reference.round);
-    field(includes.left as u64);
-    field(statements.left as u64);
-    field(time.low);
-    field(time.high);
-    field(b.epoch_marker as u64);
+    number(reference.authority);
+    number(reference.round);
+    number(includes.left as u64);
+    number(statements.left as u64);
+    number(time.low);
+    number(time.high);
+    number(b.epoch_marker as u64);
 }
 
 fn show_fixed(kind: u8, s: &[u8]) {
     if kind == 1 {
         let d = types::decode_reference(s, 0);
-        field(d.reference.authority);
-        field(d.reference.round);
+        number(d.reference.authority);
+        number(d.reference.round);
     }
     if kind == 2 {
         let d = types::decode_locator(s, 0);
-        field(d.locator.block.authority);
-        field(d.locator.block.round);
-        field(d.locator.offset);
+        number(d.locator.block.authority);
+        number(d.locator.block.round);
+        number(d.locator.offset);
     }
     if kind == 3 {
         let d = types::decode_range(s, 0);
-        field(d.range.block.authority);
-        field(d.range.offset_start_inclusive);
-        field(d.range.offset_end_exclusive);
+        number(d.range.block.authority);
+        number(d.range.offset_start_inclusive);
+        number(d.range.offset_end_exclusive);
     }
 }
 
@@ -297,7 +271,7 @@ fn show_fields(kind: u8, s: &[u8]) {
     }
     if kind == 7 {
         let d = commits::decode_own_block(s, 0);
-        field(d.own_block.next_entry.0);
+        number(d.own_block.next_entry.0);
         show_block(s, 8);
     }
 }
@@ -310,12 +284,12 @@ fn show(kind: u8, s: &mut [u8]) {
     let whole = ask(kind, s, start);
     let cut = ask_cuts(kind, s, whole);
     let t = ask_damaged(kind, s, cut);
-    number(kind as u64);
+    io::print_decimal(STDOUT_FILENO, kind as u64);
     number(s.len() as u64);
     number(t.accepted);
-    io::print_hex(STDOUT_FILENO, !t.register as u64, 8);
+    hex(!t.register as u64, 8);
     show_fields(kind, s);
-    io::write_all(STDOUT_FILENO, b"\n");
+    end_line();
 }
 
 // A record's head: kind and length.

@@ -13,7 +13,20 @@
 // line.
 ghost use Prim.Native.Nat.{_≤_};
 ghost use lib.ListN.{length};
-use bincode::Number;
+use case_lines::behind;
+use case_lines::blank;
+use case_lines::bytes_at;
+use case_lines::end_line;
+use case_lines::feed_reference;
+use case_lines::feed_table;
+use case_lines::feed_word;
+use case_lines::hex;
+use case_lines::more;
+use case_lines::number;
+use case_lines::number_at;
+use case_lines::plus;
+use case_lines::show_place;
+use case_lines::word_at;
 use index::FoundReference;
 use index::StoreSummary;
 use libc::STDIN_FILENO;
@@ -38,60 +51,6 @@ pub struct Call {
     pub index: u64,
 }
 
-// ---- Reading
-
-// The bytes from a up to e, or none where they are not all there.
-fn part(s: &[u8], a: usize, e: usize) -> &[u8] {
-    if a <= e {
-        if e <= s.len() {
-            return &s[a..e];
-        }
-    }
-    &s[..0]
-}
-
-fn plus(a: usize, b: usize) -> usize {
-    if 0xffff_ffff_ffff_ffff - a < b {
-        a
-    } else {
-        a + b
-    }
-}
-
-// The number at `at`, 0 where there is none.
-fn number_at(s: &[u8], at: usize) -> u64 {
-    let found = bincode::decode_u64(s, at);
-    match found {
-        Number::Got(n, _) => n,
-        Number::Bad => 0,
-    }
-}
-
-// The word at `at`, 0 where there is none.
-fn word_at(t: &[u64], at: usize) -> u64 {
-    if at < t.len() { t[at] } else { 0 }
-}
-
-// ---- Writing
-
-fn blank() {
-    io::write_all(STDOUT_FILENO, b" ");
-}
-
-fn end_line() {
-    io::write_all(STDOUT_FILENO, b"\n");
-}
-
-fn number(n: u64) {
-    blank();
-    io::print_decimal(STDOUT_FILENO, n);
-}
-
-fn hex(n: u64, digits: usize) {
-    blank();
-    io::print_hex(STDOUT_FILENO, n, digits);
-}
-
 fn word(stop: Stop) {
     match stop {
         Stop::End => io::write_all(STDOUT_FILENO, b"END"),
@@ -101,33 +60,7 @@ fn word(stop: Stop) {
     ;
 }
 
-// ---- Checksums over words, each as 8 bytes
-
-fn feed_word(register: u32, w: u64) -> u32 {
-    let low = w % 0x1_0000_0000;
-    let high = w / 0x1_0000_0000;
-    let bytes = [
-        (low % 256) as u8,
-        (low / 0x100 % 256) as u8,
-        (low / 0x1_0000 % 256) as u8,
-        (low / 0x100_0000 % 256) as u8,
-        (high % 256) as u8,
-        (high / 0x100 % 256) as u8,
-        (high / 0x1_0000 % 256) as u8,
-        (high / 0x100_0000 % 256) as u8,
-    ];
-    checksum::update(register, &bytes)
-}
-
-fn feed_table(register: u32, t: &[u64]) -> u32 {
-    let mut c = register;
-    let mut i = 0;
-    while i < t.len() {
-        c = feed_word(c, t[i]);
-        i += 1;
-    }
-    c
-}
+// ---- Checksums
 
 fn feed_three(register: u32, a: u64, b: u64, c: u64) -> u32 {
     let one = feed_word(register, a);
@@ -142,22 +75,12 @@ fn feed_span(register: u32, s: Span) -> u32 {
     }
 }
 
-fn feed_reference(register: u32, f: FoundReference) -> u32 {
-    let r = f.reference;
-    let digest = r.digest;
-    let bytes = digest.0;
-    let one = feed_word(register, f.there as u64);
-    let two = feed_word(one, r.authority);
-    let three = feed_word(two, r.round);
-    checksum::update(three, &bytes)
-}
-
 fn feed_summary(register: u32, s: StoreSummary) -> u32 {
     let seen = s.last_seen_by_authority;
     let last = s.last_own_block;
     let one = feed_word(register, s.highest_round);
     let two = feed_table(one, &seen);
-    feed_reference(two, last)
+    feed_reference(two, last.there, last.reference)
 }
 
 // The state but for the tables.
@@ -175,7 +98,7 @@ fn feed_state(register: u32, s: Replay) -> u32 {
     let c5 = feed_span(c4, last_own);
     let c6 = feed_span(c5, state);
     let c7 = feed_span(c6, committed_state);
-    let c8 = feed_reference(c7, leader);
+    let c8 = feed_reference(c7, leader.there, leader.reference);
     feed_summary(c8, summary)
 }
 
@@ -234,25 +157,11 @@ fn show_blocks(name: &[u8], t: &[u64], count: usize) {
     }
 }
 
-// Its place, its length, its checksum.
-fn show_place(image: &[u8], at: usize, len: usize) {
-    number(at as u64);
-    number(len as u64);
-    hex(checksum::hash(part(image, at, plus(at, len))) as u64, 8);
-}
-
-// Whether it is there, and its place.
 fn show_span(name: &[u8], image: &[u8], s: Span) {
     io::write_all(STDOUT_FILENO, name);
     match s {
-        Span::Nothing => {
-            number(0);
-            show_place(image, 0, 0);
-        }
-        Span::At(at, len) => {
-            number(1);
-            show_place(image, at, len);
-        }
+        Span::Nothing => show_place(image, false, 0, 0),
+        Span::At(at, len) => show_place(image, true, at, len),
     }
     end_line();
 }
@@ -310,10 +219,6 @@ fn show_replay(
 }
 
 // ---- The answer
-
-fn more(n: u64) -> u64 {
-    if n < 0xffff_ffff { n + 1 } else { n }
-}
 
 // One more for each word other than zero.
 fn count_words(n: u64, t: &[u64]) -> u64 {
@@ -516,25 +421,19 @@ fn call_at(s: &[u8], at: usize) -> Call {
     }
 }
 
-// The place behind the bytes whose length stands at `at`.
-fn behind(s: &[u8], at: usize) -> usize {
-    plus(plus(at, 8), number_at(s, at) as usize)
-}
-
 // The case at `at`, and the place behind it.
 fn show_case(s: &[u8], at: usize) -> usize {
     let call = call_at(s, at);
     let name = plus(at, 72);
     let image = behind(s, name);
-    let end = behind(s, image);
-    io::write_all(STDOUT_FILENO, part(s, plus(name, 8), image));
+    io::write_all(STDOUT_FILENO, bytes_at(s, name));
     end_line();
     if call.form == 1 {
-        run_cuts(call, part(s, plus(image, 8), end));
+        run_cuts(call, bytes_at(s, image));
     } else {
-        run(call, part(s, plus(image, 8), end));
+        run(call, bytes_at(s, image));
     }
-    end
+    behind(s, image)
 }
 
 fn show_all(s: &[u8]) {

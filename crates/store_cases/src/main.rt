@@ -12,10 +12,21 @@
 // count of its calls. A call is its kind and its arguments; references and byte strings are as bincode
 // has them.
 ghost use Prim.Native.Nat.{_≤_};
-use bincode::Number;
+use case_lines::behind;
+use case_lines::blank;
+use case_lines::bytes_at;
+use case_lines::end_line;
+use case_lines::feed_reference;
+use case_lines::feed_table;
+use case_lines::feed_word;
+use case_lines::hex;
+use case_lines::number;
+use case_lines::number_at;
+use case_lines::plus;
+use case_lines::show_place;
+use case_lines::word_at;
 use cleanup::Cleaned;
 use exists::Answer;
-use index::FoundReference;
 use index::StoreSummary;
 use insert::Inserted;
 use libc::STDIN_FILENO;
@@ -44,46 +55,9 @@ fn with_store(t: Setting, store: BlockStore) -> Setting {
 
 // ---- Reading
 
-// The bytes from a up to e, or none where they are not all there.
-fn part(s: &[u8], a: usize, e: usize) -> &[u8] {
-    if a <= e {
-        if e <= s.len() {
-            return &s[a..e];
-        }
-    }
-    &s[..0]
-}
-
-fn plus(a: usize, b: usize) -> usize {
-    if 0xffff_ffff_ffff_ffff - a < b {
-        a
-    } else {
-        a + b
-    }
-}
-
-// The number at `at`, 0 where there is none.
-fn number_at(s: &[u8], at: usize) -> u64 {
-    let found = bincode::decode_u64(s, at);
-    match found {
-        Number::Got(n, _) => n,
-        Number::Bad => 0,
-    }
-}
-
-// The word at `at`, 0 where there is none.
-fn word_at(t: &[u64], at: usize) -> u64 {
-    if at < t.len() { t[at] } else { 0 }
-}
-
 fn reference_at(s: &[u8], at: usize) -> BlockReference {
     let d = types::decode_reference(s, at);
     d.reference
-}
-
-// The place behind the bytes whose length stands at `at`.
-fn behind(s: &[u8], at: usize) -> usize {
-    plus(plus(at, 8), number_at(s, at) as usize)
 }
 
 // The place behind the words whose number stands at `at`.
@@ -96,83 +70,23 @@ fn times_eight(n: usize) -> usize {
     if n < 0x1000_0000_0000_0000 { 8 * n } else { n }
 }
 
-// The bytes behind their length at `at`.
-fn bytes_at(s: &[u8], at: usize) -> &[u8] {
-    part(s, plus(at, 8), behind(s, at))
-}
-
 // ---- Writing
-
-fn blank() {
-    io::write_all(STDOUT_FILENO, b" ");
-}
-
-fn end_line() {
-    io::write_all(STDOUT_FILENO, b"\n");
-}
 
 fn text(bytes: &[u8]) {
     io::write_all(STDOUT_FILENO, bytes);
-}
-
-fn number(n: u64) {
-    blank();
-    io::print_decimal(STDOUT_FILENO, n);
-}
-
-fn hex(n: u64, digits: usize) {
-    blank();
-    io::print_hex(STDOUT_FILENO, n, digits);
-}
-
-// ---- Checksums over words, each as 8 bytes
-
-fn feed_word(register: u32, w: u64) -> u32 {
-    let low = w % 0x1_0000_0000;
-    let high = w / 0x1_0000_0000;
-    let bytes = [
-        (low % 256) as u8,
-        (low / 0x100 % 256) as u8,
-        (low / 0x1_0000 % 256) as u8,
-        (low / 0x100_0000 % 256) as u8,
-        (high % 256) as u8,
-        (high / 0x100 % 256) as u8,
-        (high / 0x1_0000 % 256) as u8,
-        (high / 0x100_0000 % 256) as u8,
-    ];
-    checksum::update(register, &bytes)
-}
-
-fn feed_table(register: u32, t: &[u64]) -> u32 {
-    let mut c = register;
-    let mut i = 0;
-    while i < t.len() {
-        c = feed_word(c, t[i]);
-        i += 1;
-    }
-    c
 }
 
 fn show_table(t: &[u64]) {
     hex(!feed_table(0xffff_ffff, t) as u64, 8);
 }
 
-fn feed_reference(register: u32, f: FoundReference) -> u32 {
-    let r = f.reference;
-    let digest = r.digest;
-    let bytes = digest.0;
-    let one = feed_word(register, f.there as u64);
-    let two = feed_word(one, r.authority);
-    let three = feed_word(two, r.round);
-    checksum::update(three, &bytes)
-}
-
 // The highest round, the last seen rounds and the own reference.
 fn show_summary(s: StoreSummary) {
     let seen = s.last_seen_by_authority;
+    let last = s.last_own_block;
     let one = feed_word(0xffff_ffff, s.highest_round);
     let two = feed_table(one, &seen);
-    let three = feed_reference(two, s.last_own_block);
+    let three = feed_reference(two, last.there, last.reference);
     hex(!three as u64, 8);
 }
 
@@ -224,24 +138,10 @@ fn show_answer(a: Answer) {
     end_line();
 }
 
-// Its place, its length, its checksum.
-fn show_place(image: &[u8], at: usize, len: usize) {
-    number(at as u64);
-    number(len as u64);
-    hex(checksum::hash(part(image, at, plus(at, len))) as u64, 8);
-}
-
-// Whether it is there, and its place.
 fn show_span(image: &[u8], s: Span) {
     match s {
-        Span::Nothing => {
-            number(0);
-            show_place(image, 0, 0);
-        }
-        Span::At(at, len) => {
-            number(1);
-            show_place(image, at, len);
-        }
+        Span::Nothing => show_place(image, false, 0, 0),
+        Span::At(at, len) => show_place(image, true, at, len),
     }
 }
 

@@ -3,6 +3,8 @@
 // written from document 01.
 ghost use Prim.Native.Nat.{_≤_};
 ghost use lib.ListN.{length};
+use case_lines::end_line;
+use case_lines::number;
 use libc::STDOUT_FILENO;
 use wal::Appended;
 use wal::Found;
@@ -10,15 +12,6 @@ use wal::Stop;
 use wal::WalPosition;
 use wal::WalWriter;
 use wal::Walked;
-
-fn number(n: u64) {
-    io::write_all(STDOUT_FILENO, b" ");
-    io::print_decimal(STDOUT_FILENO, n);
-}
-
-fn end_line() {
-    io::write_all(STDOUT_FILENO, b"\n");
-}
 
 fn refused(n: u8) {
     io::write_all(STDOUT_FILENO, b" REFUSED");

@@ -30,5 +30,5 @@ unfoldable pub bytesOf : List ℕ → ℕ → List ℕ
 bytesOf s p = partOf s (sumOf p 8) (behindOf s p)
 
 -- 1 or 0 for whether a reference is there, authority and round, each in 8 bytes, and the digest
-unfoldable pub referenceBytes : Bool → BlockReference → List ℕ
-referenceBytes there r = le 8 (pick there 1 0) ++ le 8 (r .authority) ++ le 8 (r .round) ++ r .digest .0
+unfoldable pub foundReferenceBytes : Bool → BlockReference → List ℕ
+foundReferenceBytes there r = le 8 (pick there 1 0) ++ le 8 (r .authority) ++ le 8 (r .round) ++ r .digest .0

@@ -8,7 +8,7 @@ ghost use Rattle.laws.specs.Bytes.{le};
 ghost use Rattle.laws.specs.Parse.{joined};
 ghost use Rattle.laws.specs.Pick.{pick};
 ghost use Rattle.checksum.specs.Crc32.{feed};
-ghost use Rattle.case_lines.specs.Cases.{sumOf, partOf, numberAt, behindOf, bytesOf, referenceBytes};
+ghost use Rattle.case_lines.specs.Cases.{sumOf, partOf, numberAt, behindOf, bytesOf, foundReferenceBytes};
 use bincode::Number;
 use libc::STDOUT_FILENO;
 use types::BlockReference;
@@ -101,7 +101,7 @@ pub fn feed_table(register: u32, t: &[u64]) -> u32
 
 // Whether a reference is there, and the reference.
 pub fn feed_reference(register: u32, there: bool, reference: BlockReference) -> u32
-    ensures { λ r. ⌜ r ≡ feed register (referenceBytes there reference) ⌝ }
+    ensures { λ r. ⌜ r ≡ feed register (foundReferenceBytes there reference) ⌝ }
 {
     let digest = reference.digest;
     let bytes = digest.0;

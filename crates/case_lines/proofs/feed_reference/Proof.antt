@@ -4,7 +4,7 @@ use mathlib.Core.Path.{ap, _∙_}
 use Rattle.checksum.specs.Crc32.{feed}
 use Rattle.laws.specs.Bytes.{le}
 use Rattle.laws.specs.Pick.{pick}
-use Rattle.case_lines.specs.Cases.{referenceBytes}
+use Rattle.case_lines.specs.Cases.{foundReferenceBytes}
 use Rattle.case_lines.proofs.Words.{fed-four, bool-word}
 use borrow.Author.Needs.{needs}
 use Rattle.case_lines.proofs.feed_reference.Statement.{statement}
@@ -29,7 +29,7 @@ update-requires : tie.Need-update-requires
 update-requires c κs = search needs
 
 returns : tie.Need-returns
-unfolding referenceBytes
+unfolding foundReferenceBytes
 returns c =
     let third = c .before .before in
     let second = third .before in

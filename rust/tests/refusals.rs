@@ -1,14 +1,8 @@
 //! The small examples of the refusal table, one for each number.
-use kadzhomir::{BlockReference, BlockStore, Log, Refusal, RefusedAt, WalPosition};
+mod common;
 
-/// A block without includes and statements, of digest 0.
-fn block(authority: u64, round: u64) -> Vec<u8> {
-    let mut bytes: Vec<u8> = [authority, round, 32, 0, 0, 0, 0, 0, 0, 0, 0].iter().flat_map(|w: &u64| w.to_le_bytes()).collect();
-    bytes.push(0);
-    bytes.extend(64u64.to_le_bytes());
-    bytes.extend([0; 64]);
-    bytes
-}
+use common::block;
+use kadzhomir::{BlockReference, BlockStore, Log, Refusal, RefusedAt, WalPosition};
 
 const EPOCH_MARKER: usize = 88;
 

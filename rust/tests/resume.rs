@@ -1,4 +1,7 @@
 //! Going on after a power cut: with the writer that recovery gives, at the end of the last whole entry.
+mod common;
+
+use common::block;
 use kadzhomir::{BlockReference, BlockStore, Log, Refusal, Stop, WalPosition};
 
 const ENTRIES: [(u32, &[u8]); 4] = [(4, b"123456789"), (4, b""), (4, b"123456789"), (4, b"12")];
@@ -55,13 +58,6 @@ fn appending_at_the_cut_loses_what_is_appended() {
 
 #[test]
 fn a_store_goes_on_at_the_same_place() {
-    fn block(authority: u64, round: u64) -> Vec<u8> {
-        let mut bytes: Vec<u8> = [authority, round, 32, 0, 0, 0, 0, 0, 0, 0, 0].iter().flat_map(|w: &u64| w.to_le_bytes()).collect();
-        bytes.push(0);
-        bytes.extend(64u64.to_le_bytes());
-        bytes.extend([0; 64]);
-        bytes
-    }
     let reference = |authority, round| BlockReference { authority, round, digest: [0; 32] };
     let mut log = Log::new(16, vec![0; 4096], 0);
     for authority in 1..4 {

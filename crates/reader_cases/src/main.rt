@@ -3,6 +3,10 @@
 // an iterator, so the two calls are made through `append_through` and `step_through`.
 //
 // The file `stdout` was made by tools/model/reader_cases.py, a model written from document 01.
+use case_lines::end_line;
+use case_lines::hex;
+use case_lines::number;
+use case_lines::part;
 use libc::STDOUT_FILENO;
 use meta_statement::MetaKind;
 use meta_statement::MetaStatement;
@@ -15,20 +19,6 @@ use wal::WalkStep;
 use wal_iterator::Stepped;
 
 // ---- Lines
-
-fn number(n: u64) {
-    io::write_all(STDOUT_FILENO, b" ");
-    io::print_decimal(STDOUT_FILENO, n);
-}
-
-fn hex(n: u32) {
-    io::write_all(STDOUT_FILENO, b" ");
-    io::print_hex(STDOUT_FILENO, n as u64, 8);
-}
-
-fn end_line() {
-    io::write_all(STDOUT_FILENO, b"\n");
-}
 
 fn refused(n: u8) {
     io::write_all(STDOUT_FILENO, b" REFUSED");
@@ -168,7 +158,7 @@ fn show_include(m: MetaStatement) {
     io::write_all(STDOUT_FILENO, b"include");
     number(r.authority);
     number(r.round);
-    hex(checksum::hash(&bytes));
+    hex(checksum::hash(&bytes) as u64, 8);
     end_line();
 }
 
@@ -193,21 +183,11 @@ fn show_meta(m: MetaStatement) {
     }
 }
 
-// The bytes from a up to e, or none where they are not all there.
-fn part(s: &[u8], a: usize, e: usize) -> &[u8] {
-    if a <= e {
-        if e <= s.len() {
-            return &s[a..e];
-        }
-    }
-    &s[..0]
-}
-
 fn show_entry(image: &[u8], entry: WalEntry, end: WalPosition) {
     number(entry.position.0);
     number(entry.tag as u64);
     number(entry.len);
-    hex(entry.checksum);
+    hex(entry.checksum as u64, 8);
     show_end(end);
     let start = entry.position.add(16);
     let payload = part(image, start.0 as usize, end.0 as usize);

@@ -155,9 +155,9 @@ fn recovery_number(recovered: &[u64; 161]) -> u8
 fn open_number(size: u64, own: u64, recovered: &[u64; 161]) -> u8
     ensures { λ r. ⌜ r ≡ openedNumber size own (now (recovered .entry)) ⌝ }
 {
-    let number = recovery_number(recovered);
-    if number != 0 {
-        return number;
+    let refusal = recovery_number(recovered);
+    if refusal != 0 {
+        return refusal;
     }
     committee::check_committee(size, own)
 }
@@ -167,9 +167,9 @@ pub fn resume(recovered: &[u64; 161], used: &mut u64) -> u8
     ensures { λ r. ⌜ (r ≡ recoveryNumber (now (recovered .entry)))
         × (now (used .exit) ≡ resumedUsed (now (recovered .entry)) (now (used .entry))) ⌝ }
 {
-    let number = recovery_number(recovered);
-    if number != 0 {
-        return number;
+    let refusal = recovery_number(recovered);
+    if refusal != 0 {
+        return refusal;
     }
     *used = recovered[3];
     0
@@ -181,9 +181,9 @@ pub fn open_store(out: &mut [u64; 140], size: u64, own: u64, recovered: &[u64; 1
     ensures { λ r. ⌜ (r ≡ openedNumber size own (now (recovered .entry)))
         × (now (out .exit) ≡ openedAfter size own (now (recovered .entry)) (now (out .entry))) ⌝ }
 {
-    let number = open_number(size, own, recovered);
-    if number != 0 {
-        return number;
+    let refusal = open_number(size, own, recovered);
+    if refusal != 0 {
+        return refusal;
     }
     put_opened(out, size, own, recovered);
     0

@@ -1,5 +1,5 @@
 -- `case_lines::behind` meets its contract. Assumes nothing.
-use Rattle.case_lines.specs.Cases.{sumOf, behindOf}
+use Rattle.case_lines.specs.Cases.{behindOf}
 use borrow.Author.Needs.{needs}
 use Rattle.case_lines.proofs.behind.Statement.{statement}
 use Rattle.case_lines.proofs.behind.Tie as tie

@@ -9,12 +9,15 @@ use std::ops::Range;
 /// ```
 #[derive(Clone, Debug, PartialEq, Eq, Hash)]
 pub struct Block {
+    /// The block's name.
     pub reference: BlockReference,
     /// Place of the first include, and their number.
     pub includes: (usize, usize),
     /// Place of the first statement, and their number.
     pub statements: (usize, usize),
+    /// The creation time, in nanoseconds.
     pub creation_time_ns: u128,
+    /// Whether the block closes an epoch.
     pub epoch_marker: bool,
     /// The place behind the block.
     pub end: usize,

@@ -1,13 +1,14 @@
-//! Safe calls for a log store that is proved: its write-ahead log, its recovery, and its block store.
+//! A log store that is proved: its write-ahead log, its recovery, and its block store; and a node's log in a file.
 //!
 //! The code behind these calls is the archive libnode.a, which `rt staticlib node` makes once each function is proved to
-//! meet its contract. This crate only lends it memory and names its answers. A call serves whatever it is given, or says
-//! by a [`Refusal`] why not; none panics on the log's bytes.
+//! meet its contract. This crate only lends it memory, writes bytes to files and names its answers. A call serves whatever it
+//! is given, or says by a [`Refusal`] why not; none panics on the log's bytes.
 //!
-//! - [`Log`]: append, read, walk, recover.
-//! - [`Recovered`]: what a log holds, and the log to go on with.
-//! - [`BlockStore`]: insert, cleanup and lookups.
-#![deny(unsafe_code, missing_debug_implementations)]
+//! - [`Node`]: a log in a file, opened, cut where a crash left it, appended to and synced. Begin here.
+//! - [`Log`]: append, read, walk and recover a log in memory that the caller brings.
+//! - [`BlockStore`]: a recovered log with its index: insert, cleanup and lookups.
+//! - [`Recovered`]: what a recovery found beside the index.
+#![deny(unsafe_code, missing_docs, missing_debug_implementations)]
 
 mod block;
 #[allow(unsafe_code)]
@@ -15,14 +16,19 @@ mod block;
 #[allow(clippy::too_many_arguments)]
 mod ffi;
 mod log;
+mod node;
+mod records;
 mod recovered;
 mod refusal;
+mod rows;
 mod store;
 mod types;
 
 pub use block::Block;
 pub use log::{Entries, Entry, Log, Stop, Walked};
+pub use node::{Aside, Cut, Error, Look, Node, Opened, Options, Plan, Settings};
+pub use records::crc32;
 pub use recovered::{Indexed, Pending, Recovered};
-pub use refusal::{Refusal, RefusedAt};
+pub use refusal::{NotRecovered, Refusal, RefusedAt};
 pub use store::{BlockStore, Found};
 pub use types::{BlockReference, WalPosition};

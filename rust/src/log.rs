@@ -1,16 +1,20 @@
 use crate::ffi::{self, StoreWords, View};
 use crate::recovered::Recovered;
 use crate::refusal::{served, served_at};
-use crate::{Refusal, RefusedAt, WalPosition};
+use crate::{BlockStore, NotRecovered, Refusal, RefusedAt, WalPosition};
+use std::fmt;
 use std::ops::Range;
 
 /// An entry of a log.
 #[derive(Clone, Copy, Debug, PartialEq, Eq, Hash)]
 pub struct Entry {
+    /// Where the entry begins.
     pub position: WalPosition,
+    /// What the payload is: 1 a block, 2 a payload, 3 an own block, 4 a state, 5 a commit.
     pub tag: u32,
     /// The payload's length.
     pub len: u64,
+    /// The payload's CRC-32.
     pub checksum: u32,
 }
 
@@ -34,8 +38,11 @@ impl Entry {
 /// Why a walk stopped: at the log's end, at zeros, or at an entry that is not whole. A refused walk has no stop.
 #[derive(Clone, Copy, Debug, PartialEq, Eq, Hash)]
 pub enum Stop {
+    /// At the log's end, right behind the last entry.
     End,
+    /// At zeros, or behind bytes that were skipped.
     Zeros,
+    /// At an entry that is not whole.
     Torn,
 }
 
@@ -46,11 +53,23 @@ impl Stop {
     }
 }
 
+/// The stop word, as a listing has it.
+impl fmt::Display for Stop {
+    fn fmt(&self, f: &mut fmt::Formatter<'_>) -> fmt::Result {
+        f.write_str(match self {
+            Stop::End => "END",
+            Stop::Zeros => "ZEROS",
+            Stop::Torn => "TORN",
+        })
+    }
+}
+
 /// What a walk over a whole log found.
 #[derive(Clone, Copy, Debug, PartialEq, Eq, Hash)]
 pub struct Walked {
+    /// Why it stopped.
     pub stop: Stop,
-    /// The end of the last whole entry. Recover the log to go on appending there ([`Recovered::writer`]).
+    /// The end of the last whole entry. Recover the log to go on appending there ([`Log::recover`]).
     pub end: WalPosition,
     /// The bytes behind it.
     pub unread: u64,
@@ -58,12 +77,14 @@ pub struct Walked {
 
 /// A log: regions of 2^k bytes, an image, and how many of its bytes the log has. Nothing is checked here: each call checks.
 ///
+/// This is the log in memory that its caller brings. A log in a file is a [`Node`](crate::Node)'s.
+///
 /// ```
 /// use kadzhomir::{Log, Stop};
 ///
 /// let mut log = Log::new(6, vec![0; 128], 0);
 /// for (tag, payload) in [(2, "123456789"), (4, ""), (2, "123456789")] {
-///     log.append(tag, payload.as_bytes())?;
+///     log.append_raw(tag, payload.as_bytes())?;
 /// }
 /// // An entry crosses no multiple of 2^k: the third one starts the second region.
 /// let starts: Vec<u64> = log.entries().map(|e| Ok(e?.position.0)).collect::<Result<_, kadzhomir::RefusedAt>>()?;
@@ -74,7 +95,6 @@ pub struct Walked {
 /// assert_eq!((walked.stop, walked.end.0, walked.unread), (Stop::Torn, 41, 39));
 /// # Ok::<(), Box<dyn std::error::Error>>(())
 /// ```
-#[derive(Clone, Debug)]
 pub struct Log<B> {
     k: u64,
     image: B,
@@ -82,6 +102,7 @@ pub struct Log<B> {
 }
 
 impl<B> Log<B> {
+    /// The log of the first `used` bytes of an image, in regions of 2^k bytes.
     pub fn new(k: u64, image: B, used: u64) -> Self {
         Self { k, image, used }
     }
@@ -96,7 +117,7 @@ impl<B> Log<B> {
         self.used
     }
 
-    /// The image, to write it to a file or to make it longer.
+    /// The image, to make it longer.
     pub fn image_mut(&mut self) -> &mut B {
         &mut self.image
     }
@@ -104,6 +125,11 @@ impl<B> Log<B> {
     /// The image, given back.
     pub fn into_image(self) -> B {
         self.image
+    }
+
+    /// The same image with another length.
+    pub(crate) fn with_used(self, used: u64) -> Self {
+        Self { used, ..self }
     }
 }
 
@@ -123,7 +149,7 @@ impl<B: AsRef<[u8]>> Log<B> {
     /// use kadzhomir::{Log, Refusal, WalPosition};
     ///
     /// let mut log = Log::new(6, vec![0; 64], 0);
-    /// let position = log.append(4, b"state")?;
+    /// let position = log.append_raw(4, b"state")?;
     /// let entry = log.read(position)?;
     /// assert_eq!(&log.image()[entry.payload()], b"state");
     /// assert_eq!(log.read(WalPosition(21)), Err(Refusal::PastUsed));
@@ -137,7 +163,23 @@ impl<B: AsRef<[u8]>> Log<B> {
 
     /// The entries from the log's start, up to where a walk stops or is refused.
     pub fn entries(&self) -> Entries<'_> {
-        Entries { view: self.view(), end: WalPosition(0), stop: None, done: false }
+        self.entries_from(WalPosition(0))
+    }
+
+    /// The entries from an entry's end on, so that a tail can be followed: begin at [`Entries::end`] of the walk before, once more was
+    /// appended. From a place that is no entry's end it lists whatever reads as entries there.
+    ///
+    /// ```
+    /// let mut log = kadzhomir::Log::new(16, vec![0; 4096], 0);
+    /// log.append_raw(4, b"seen")?;
+    /// let seen = { let mut all = log.entries(); all.by_ref().for_each(drop); all.end() };
+    /// log.append_raw(4, b"new")?;
+    /// let tail: Vec<_> = log.entries_from(seen).collect::<Result<_, _>>()?;
+    /// assert_eq!(&log.image()[tail[0].payload()], b"new");
+    /// # Ok::<(), Box<dyn std::error::Error>>(())
+    /// ```
+    pub fn entries_from(&self, end: WalPosition) -> Entries<'_> {
+        Entries { view: self.view(), end, stop: None, done: false }
     }
 
     /// Walks the whole log.
@@ -148,21 +190,45 @@ impl<B: AsRef<[u8]>> Log<B> {
         Ok(Walked { stop: Stop::of(answer[2]), end: WalPosition(answer[3]), unread: answer[4] })
     }
 
-    /// Recovers what the log holds, in tables that are made as long as needed. A refusal has its number and the start of the
-    /// entry concerned. Go on with [`Recovered::writer`]: what lies behind the last whole entry would hide what is appended here.
-    pub fn recover(&self, committee_size: u64, own: u64) -> Result<Recovered, RefusedAt> {
-        Recovered::grown(self.view(), committee_size, own)
+    /// Recovers what the log holds, in tables as long as the log needs. The log goes into the store that is answered, at the end of its
+    /// last whole entry: there is no going on elsewhere. A refusal gives the log back as it was, with the number and the start of the
+    /// entry concerned.
+    ///
+    /// ```
+    /// use kadzhomir::{Log, Stop};
+    ///
+    /// let mut log = Log::new(16, vec![0; 4096], 0);
+    /// log.append_raw(4, b"first")?;
+    /// log.append_raw(4, b"second")?;
+    ///
+    /// // A power cut in the second entry.
+    /// let (mut store, recovered) = Log::new(16, log.into_image(), 30).recover(4, 0)?;
+    /// assert_eq!((recovered.stop(), recovered.end().0, recovered.unread()), (Stop::Torn, 21, 9));
+    /// assert_eq!(store.append_raw(4, b"third")?.0, 21);
+    /// assert_eq!(store.log().walk()?.stop, Stop::End);
+    /// # Ok::<(), Box<dyn std::error::Error>>(())
+    /// ```
+    pub fn recover(self, committee_size: u64, own: u64) -> Result<(BlockStore<B>, Recovered), NotRecovered<B>> {
+        let answer = Recovered::sized(self.view(), committee_size, own);
+        BlockStore::opened(self, committee_size, own, answer)
     }
 
     /// The same with this many rows for pending, unprocessed, committed and index.
-    pub fn recover_in_rows(&self, committee_size: u64, own: u64, rows: [usize; 4]) -> Result<Recovered, RefusedAt> {
-        Recovered::in_rows(self.view(), committee_size, own, rows)
+    pub fn recover_in_rows(
+        self,
+        committee_size: u64,
+        own: u64,
+        rows: [usize; 4],
+    ) -> Result<(BlockStore<B>, Recovered), NotRecovered<B>> {
+        let answer = Recovered::in_rows(self.view(), committee_size, own, rows);
+        BlockStore::opened(self, committee_size, own, answer)
     }
 }
 
 impl<B: AsRef<[u8]> + AsMut<[u8]>> Log<B> {
-    /// Appends an entry and answers its position. A refused append changes nothing.
-    pub fn append(&mut self, tag: u32, payload: &[u8]) -> Result<WalPosition, Refusal> {
+    /// Appends an entry as it is given and answers its position. A refused append changes nothing. What the payload holds is not looked
+    /// at: recovery refuses a log with a tag that is not 1 to 5, or with a payload that its tag does not allow.
+    pub fn append_raw(&mut self, tag: u32, payload: &[u8]) -> Result<WalPosition, Refusal> {
         let mut answer = [0; 3];
         served(ffi::append(self.k, self.used, self.image.as_mut(), tag, payload, &mut answer))?;
         self.used = answer[2];
@@ -178,8 +244,15 @@ impl<B: AsRef<[u8]> + AsMut<[u8]>> Log<B> {
     }
 }
 
+/// The exponent and the lengths, not the image.
+impl<B: AsRef<[u8]>> fmt::Debug for Log<B> {
+    fn fmt(&self, f: &mut fmt::Formatter<'_>) -> fmt::Result {
+        f.debug_struct("Log").field("k", &self.k).field("used", &self.used).field("image_len", &self.image().len()).finish()
+    }
+}
+
 /// The entries of a log, one walk's step at a time.
-#[derive(Clone, Debug)]
+#[derive(Clone)]
 pub struct Entries<'a> {
     view: View<'a>,
     end: WalPosition,
@@ -188,7 +261,7 @@ pub struct Entries<'a> {
 }
 
 impl Entries<'_> {
-    /// The end of the entry listed last.
+    /// The end of the entry listed last; at first, where the walk began.
     pub fn end(&self) -> WalPosition {
         self.end
     }
@@ -196,6 +269,12 @@ impl Entries<'_> {
     /// Why the walk stopped, once it has; none where it was refused.
     pub fn stop(&self) -> Option<Stop> {
         self.stop
+    }
+}
+
+impl fmt::Debug for Entries<'_> {
+    fn fmt(&self, f: &mut fmt::Formatter<'_>) -> fmt::Result {
+        f.debug_struct("Entries").field("end", &self.end).field("stop", &self.stop).finish_non_exhaustive()
     }
 }
 
@@ -223,3 +302,5 @@ impl Iterator for Entries<'_> {
         Some(Ok(entry))
     }
 }
+
+impl std::iter::FusedIterator for Entries<'_> {}

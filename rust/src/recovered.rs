@@ -1,6 +1,8 @@
 use crate::ffi::{self, RecoveredWords, View};
-use crate::refusal::{served, served_at};
-use crate::{BlockReference, Log, Refusal, RefusedAt, Stop, WalPosition};
+use crate::refusal::served_at;
+use crate::rows;
+use crate::{BlockReference, Refusal, RefusedAt, Stop, WalPosition};
+use std::fmt;
 use std::ops::Range;
 
 pub(crate) const ROW: usize = 8;
@@ -8,46 +10,60 @@ pub(crate) const ROW: usize = 8;
 /// What waits for the own block that is to take it up.
 #[derive(Clone, Copy, Debug, PartialEq, Eq, Hash)]
 pub enum Pending {
+    /// A block.
     Block {
+        /// Its entry's.
         position: WalPosition,
+        /// The block's own.
         reference: BlockReference,
     },
-    /// Statements; `len` is the number of the payload's bytes, which stand 16 bytes behind the position.
+    /// Statements.
     Payload {
+        /// Its entry's.
         position: WalPosition,
+        /// The number of the payload's bytes, which stand 16 bytes behind the position.
         len: u64,
     },
+}
+
+impl Pending {
+    /// The entry's position.
+    pub fn position(&self) -> WalPosition {
+        match self {
+            Pending::Block { position, .. } | Pending::Payload { position, .. } => *position,
+        }
+    }
 }
 
 /// An indexed block.
 #[derive(Clone, Copy, Debug, PartialEq, Eq, Hash)]
 pub struct Indexed {
+    /// The block's name.
     pub reference: BlockReference,
+    /// Where its entry begins.
     pub position: WalPosition,
+    /// Whether it counts as loaded: an insert loads it, a cleanup unloads it.
     pub loaded: bool,
 }
 
-/// What a log holds: the answer of a recovery that was not refused, with its tables.
+/// What a log holds: the answer of a recovery that was not refused, with its tables but for the index, which the store has.
 ///
 /// ```
 /// use kadzhomir::{Log, Stop};
 ///
 /// let mut log = Log::new(16, vec![0; 4096], 0);
-/// log.append(2, &[0; 8])?; // a payload without statements
-/// log.append(4, b"the state")?;
-/// let recovered = log.recover(4, 0)?;
+/// log.append_raw(2, &[0; 8])?; // a payload without statements
+/// log.append_raw(4, b"the state")?;
+/// let (store, recovered) = log.recover(4, 0)?;
 /// assert_eq!(recovered.stop(), Stop::End);
 /// assert_eq!(recovered.pending().count(), 1);
-/// assert_eq!(&log.image()[recovered.state().unwrap()], b"the state");
+/// assert_eq!(&store.log().image()[recovered.state().unwrap()], b"the state");
 /// # Ok::<(), Box<dyn std::error::Error>>(())
 /// ```
-#[derive(Clone, Debug, PartialEq, Eq)]
+#[derive(Clone, PartialEq, Eq)]
 pub struct Recovered {
     pub(crate) words: RecoveredWords,
-    k: u64,
-    pub(crate) committee_size: u64,
-    pub(crate) own: u64,
-    tables: [Vec<u64>; 4],
+    pub(crate) tables: [Vec<u64>; 4],
 }
 
 impl Recovered {
@@ -58,62 +74,34 @@ impl Recovered {
         served_at(number, words[1])?;
         for (table, count) in tables.iter_mut().zip(&words[5..9]) {
             table.truncate(*count as usize * ROW);
+            table.shrink_to_fit();
         }
-        Ok(Self { words, k: view.k, committee_size, own, tables })
+        Ok(Self { words, tables })
     }
 
-    /// Lends more rows each time that they are too few. An entry has 16 bytes at least and a committed reference 56, so that no
-    /// table needs more than a row for each 16 bytes.
-    pub(crate) fn grown(view: View, committee_size: u64, own: u64) -> Result<Self, RefusedAt> {
+    /// In as many rows as the log's entries can need, and in more each time that they are too few. An entry has 16 bytes at least, so
+    /// that no table needs more than a row for each 16 bytes.
+    pub(crate) fn sized(view: View, committee_size: u64, own: u64) -> Result<Self, RefusedAt> {
         let most = view.image.len().min(view.used as usize) / 16;
-        let mut rows = 16 + most / 4096;
+        let mut rows = rows::needed(view);
         loop {
-            match Self::in_rows(view, committee_size, own, [rows; 4]) {
-                Err(RefusedAt { refusal: Refusal::Rows, .. }) if rows < most => rows *= 4,
+            match Self::in_rows(view, committee_size, own, rows) {
+                Err(RefusedAt { refusal: Refusal::Rows, .. }) if rows.iter().any(|n| *n < most) => rows = rows.map(|n| most.min(2 * n + 16)),
                 answer => return answer,
             }
         }
-    }
-
-    /// The log to go on with, on the image that was recovered: appends and inserts follow its last whole entry, and overwrite
-    /// what lies behind it.
-    ///
-    /// ```
-    /// use kadzhomir::{Log, Stop};
-    ///
-    /// let mut log = Log::new(16, vec![0; 4096], 0);
-    /// log.append(4, b"first")?;
-    /// log.append(4, b"second")?;
-    ///
-    /// // A power cut in the second entry.
-    /// let cut = Log::new(16, log.into_image(), 30);
-    /// let recovered = cut.recover(4, 0)?;
-    /// assert_eq!((recovered.stop(), recovered.end().0, recovered.unread()), (Stop::Torn, 21, 9));
-    /// let mut log = recovered.writer(cut.into_image())?;
-    /// assert_eq!(log.append(4, b"third")?.0, 21);
-    /// assert_eq!(log.walk()?.stop, Stop::End);
-    /// # Ok::<(), Box<dyn std::error::Error>>(())
-    /// ```
-    pub fn writer<B>(&self, image: B) -> Result<Log<B>, Refusal> {
-        let mut used = 0;
-        served(ffi::writer(&self.words, &mut used))?;
-        Ok(Log::new(self.k, image, used))
     }
 
     fn rows(&self, table: usize) -> impl ExactSizeIterator<Item = &[u64]> {
         self.tables[table].chunks_exact(ROW)
     }
 
-    /// The words of the four tables: pending, unprocessed, committed and index, eight to a row (docs/LAYOUTS.md).
-    pub fn tables(&self) -> &[Vec<u64>; 4] {
-        &self.tables
-    }
-
+    /// Why the walk stopped.
     pub fn stop(&self) -> Stop {
         Stop::of(self.words[2])
     }
 
-    /// The end of the last whole entry: where [`Recovered::writer`] goes on.
+    /// The end of the last whole entry: where the store's log goes on.
     pub fn end(&self) -> WalPosition {
         WalPosition(self.words[3])
     }
@@ -141,11 +129,6 @@ impl Recovered {
         self.rows(2).map(|row| BlockReference::at(row, 0))
     }
 
-    /// The indexed blocks, ascending.
-    pub fn index(&self) -> impl ExactSizeIterator<Item = Indexed> + '_ {
-        self.rows(3).map(indexed)
-    }
-
     /// Where the payload of the last own block stands in the image: its next entry, then the block.
     pub fn last_own_block(&self) -> Option<Range<usize>> {
         self.span(9)
@@ -161,6 +144,7 @@ impl Recovered {
         self.span(15)
     }
 
+    /// The leader that was committed last.
     pub fn last_committed_leader(&self) -> Option<BlockReference> {
         found(&self.words, 18)
     }
@@ -170,6 +154,7 @@ impl Recovered {
         found(&self.words, 25)
     }
 
+    /// The highest round of a block.
     pub fn highest_round(&self) -> u64 {
         self.words[32]
     }
@@ -182,6 +167,21 @@ impl Recovered {
     fn span(&self, place: usize) -> Option<Range<usize>> {
         let [there, at, len] = [0, 1, 2].map(|i| self.words[place + i] as usize);
         (there != 0).then_some(at..at + len)
+    }
+}
+
+/// What stopped it, where it goes on, and how much of each there is.
+impl fmt::Debug for Recovered {
+    fn fmt(&self, f: &mut fmt::Formatter<'_>) -> fmt::Result {
+        f.debug_struct("Recovered")
+            .field("stop", &self.stop())
+            .field("end", &self.end())
+            .field("unread", &self.unread())
+            .field("pending", &self.pending().len())
+            .field("unprocessed", &self.unprocessed().len())
+            .field("committed", &self.committed().len())
+            .field("highest_round", &self.highest_round())
+            .finish_non_exhaustive()
     }
 }
 

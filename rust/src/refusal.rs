@@ -1,4 +1,4 @@
-use crate::WalPosition;
+use crate::{Log, WalPosition};
 use std::fmt;
 
 /// Why a call was refused. Each has its number in the specification's table, from 1 to 19.
@@ -7,31 +7,51 @@ use std::fmt;
 /// use kadzhomir::{Log, Refusal};
 ///
 /// let mut image = [0; 64];
-/// let refused = Log::new(5, &mut image[..], 0).append(1, b"").unwrap_err();
+/// let refused = Log::new(5, &mut image[..], 0).append_raw(1, b"").unwrap_err();
 /// assert_eq!(refused, Refusal::RegionExponent);
 /// assert_eq!(refused.number(), 1);
 /// assert!(refused.to_string().contains("6 to 28"));
 /// ```
 #[derive(Clone, Copy, Debug, PartialEq, Eq, Hash)]
+#[non_exhaustive]
 pub enum Refusal {
+    /// 1: the region exponent is not 6 to 28.
     RegionExponent,
+    /// 2: the log's length exceeds the image or 2^40.
     Used,
+    /// 3: the payload and its header exceed a region.
     EntryTooLarge,
+    /// 4: padding and entry pass the image's end or 2^40.
     ImageFull,
+    /// 5: a header has length 0 and a checksum.
     ChecksumWithoutLength,
+    /// 6: a header's length is 1 to 15, or passes its region's end.
     Length,
+    /// 7: the checksum is not the payload's.
     Checksum,
+    /// 8: the tag is not 1 to 5, or in a lookup neither 1 nor 3.
     Tag,
+    /// 9: a block does not decode.
     Block,
+    /// 10: an own block does not decode.
     OwnBlock,
+    /// 11: a payload that is still pending does not decode.
     Payload,
+    /// 12: a commit does not decode.
     Commit,
+    /// 13: a block's authority is not in the committee.
     Authority,
+    /// 14: the own authority has a block in this round already.
     SecondOwnBlock,
+    /// 15: a table needs more rows than were lent.
     Rows,
+    /// 16: no entry stands at this position.
     NoEntry,
+    /// 17: the position, or the entry there, passes the log's end.
     PastUsed,
+    /// 18: the committee, the own authority or the index rows.
     Store,
+    /// 19: there is no round after 2^64 - 1.
     AfterRound,
     /// A number that the table does not have. The archive linked here answers none.
     Unknown(u8),
@@ -70,11 +90,18 @@ impl Refusal {
         Some(TABLE.get(place).copied().unwrap_or(Unknown(number)))
     }
 
+    /// Its number in the table.
     pub fn number(self) -> u8 {
         match self {
             Unknown(number) => number,
             known => 1 + TABLE.iter().position(|r| *r == known).unwrap_or(0) as u8,
         }
+    }
+
+    /// Whether it is about an entry of the log, 5 to 14: a log that is cut at the entry's start has it no more. The others are about what
+    /// a call was given.
+    pub fn is_of_an_entry(self) -> bool {
+        (5..=14).contains(&self.number())
     }
 
     /// What the number means.
@@ -136,7 +163,9 @@ impl std::error::Error for Refusal {}
 /// A refusal in a walk or a recovery, with the start of the entry concerned (0 for 1, 2 and 18).
 #[derive(Clone, Copy, Debug, PartialEq, Eq, Hash)]
 pub struct RefusedAt {
+    /// Why.
     pub refusal: Refusal,
+    /// Where the entry concerned begins.
     pub start: WalPosition,
 }
 
@@ -146,7 +175,37 @@ impl fmt::Display for RefusedAt {
     }
 }
 
-impl std::error::Error for RefusedAt {}
+impl std::error::Error for RefusedAt {
+    fn source(&self) -> Option<&(dyn std::error::Error + 'static)> {
+        Some(&self.refusal)
+    }
+}
+
+/// A recovery that was refused, with the log as it was.
+pub struct NotRecovered<B> {
+    /// The number and the start of the entry concerned.
+    pub refused: RefusedAt,
+    /// The log, given back.
+    pub log: Log<B>,
+}
+
+impl<B> fmt::Debug for NotRecovered<B> {
+    fn fmt(&self, f: &mut fmt::Formatter<'_>) -> fmt::Result {
+        f.debug_struct("NotRecovered").field("refused", &self.refused).finish_non_exhaustive()
+    }
+}
+
+impl<B> fmt::Display for NotRecovered<B> {
+    fn fmt(&self, f: &mut fmt::Formatter<'_>) -> fmt::Result {
+        self.refused.fmt(f)
+    }
+}
+
+impl<B> std::error::Error for NotRecovered<B> {
+    fn source(&self) -> Option<&(dyn std::error::Error + 'static)> {
+        Some(&self.refused.refusal)
+    }
+}
 
 /// The answer of a call that gives the refusal's number.
 pub(crate) fn served(number: u8) -> Result<(), Refusal> {

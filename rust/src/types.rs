@@ -26,8 +26,11 @@ impl fmt::Display for WalPosition {
 /// ```
 #[derive(Clone, Copy, Debug, Default, PartialEq, Eq, Hash)]
 pub struct BlockReference {
+    /// Who made the block.
     pub authority: u64,
+    /// In which round.
     pub round: u64,
+    /// The digest of its contents, which nothing here computes.
     pub digest: [u8; 32],
 }
 
@@ -41,6 +44,7 @@ impl BlockReference {
         words
     }
 
+    /// The reference of these words.
     pub fn from_words(words: &[u64; 6]) -> Self {
         let mut digest = [0; 32];
         for (bytes, word) in digest.chunks_exact_mut(8).zip(&words[2..]) {

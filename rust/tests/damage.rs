@@ -1,10 +1,10 @@
 //! Which damage is detected and which is not (docs/OPERATING.md): the statement and the examples of `crates/burst`, on the archive.
-use kadzhomir::{Log, Refusal, RefusedAt, Stop, WalPosition, Walked};
+use kadzhomir::{Recovered, Log, Refusal, RefusedAt, Stop, WalPosition, Walked};
 
 fn log_of(k: u64, entries: &[(u32, &[u8])]) -> Log<Vec<u8>> {
     let mut log = Log::new(k, vec![0; 128], 0);
     for (tag, payload) in entries {
-        log.append(*tag, payload).unwrap();
+        log.append_raw(*tag, payload).unwrap();
     }
     log
 }
@@ -54,6 +54,12 @@ fn four_damaged_bytes_are_detected() {
     }
 }
 
+/// What a recovery for a committee of this size finds in the log's bytes.
+fn recovery(log: &Log<Vec<u8>>, size: u64) -> Result<Recovered, RefusedAt> {
+    let answer = Log::new(log.k(), log.image(), log.used()).recover(size, 0);
+    answer.map(|(_, recovered)| recovered).map_err(|not| not.refused)
+}
+
 #[test]
 fn walk_and_recovery_are_refused_at_the_damaged_entry() {
     let mut log = log_of(6, &[(4, b"first"), (4, b""), (4, b"second"), (4, b"third")]);
@@ -62,13 +68,13 @@ fn walk_and_recovery_are_refused_at_the_damaged_entry() {
     let refused = RefusedAt { refusal: Refusal::Checksum, start: WalPosition(37) };
     assert_eq!(starts(&log), [0, 21]);
     assert_eq!(log.walk(), Err(refused));
-    assert_eq!(log.recover(4, 0).unwrap_err(), refused);
+    assert_eq!(recovery(&log, 4).unwrap_err(), refused);
     // What stands behind it can still be read.
     assert_eq!(log.read(WalPosition(64)).map(|e| e.len), Ok(5));
     // The committee comes first, and so does an entry before it that recovery refuses: here by its tag.
-    assert_eq!(log.recover(0, 0).unwrap_err(), RefusedAt { refusal: Refusal::Store, start: WalPosition(0) });
+    assert_eq!(recovery(&log, 0).unwrap_err(), RefusedAt { refusal: Refusal::Store, start: WalPosition(0) });
     log.image_mut()[21 + 12] = 6;
-    assert_eq!(log.recover(4, 0).unwrap_err(), RefusedAt { refusal: Refusal::Tag, start: WalPosition(21) });
+    assert_eq!(recovery(&log, 4).unwrap_err(), RefusedAt { refusal: Refusal::Tag, start: WalPosition(21) });
     assert_eq!(log.walk(), Err(refused));
 }
 
@@ -91,9 +97,9 @@ fn what_the_checksum_does_not_detect() {
 #[test]
 fn a_payload_that_becomes_a_state() {
     let mut log = log_of(6, &[(2, b"123456789")]);
-    assert_eq!(log.recover(4, 0).unwrap_err().refusal, Refusal::Payload);
+    assert_eq!(recovery(&log, 4).unwrap_err().refusal, Refusal::Payload);
     log.image_mut()[12] = 4;
-    assert_eq!(log.recover(4, 0).unwrap().state(), Some(16..25));
+    assert_eq!(recovery(&log, 4).unwrap().state(), Some(16..25));
 }
 
 #[test]

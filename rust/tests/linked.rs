@@ -1,5 +1,5 @@
 //! Ancestors: a chain of includes, one round a step, through indexed blocks.
-use kadzhomir::{Block, BlockReference, BlockStore, Log, Refusal};
+use kadzhomir::{Block, BlockReference, Log, Refusal};
 
 fn reference(authority: u64, round: u64) -> BlockReference {
     BlockReference { authority, round, digest: [authority as u8; 32] }
@@ -23,18 +23,17 @@ fn block(r: BlockReference, includes: &[BlockReference]) -> Vec<u8> {
 
 #[test]
 fn chains() {
-    let mut log = Log::new(16, vec![0; 1 << 14], 0);
-    let mut store = BlockStore::open(&log.recover(4, 0).unwrap()).unwrap();
-    store.insert_block(&mut log, &block(reference(1, 1), &[])).unwrap();
-    store.insert_block(&mut log, &block(reference(2, 1), &[])).unwrap();
-    store.insert_block(&mut log, &block(reference(1, 2), &[reference(2, 1)])).unwrap();
+    let (mut store, _) = Log::new(16, vec![0; 1 << 14], 0).recover(4, 0).unwrap();
+    store.insert_block(&block(reference(1, 1), &[])).unwrap();
+    store.insert_block(&block(reference(2, 1), &[])).unwrap();
+    store.insert_block(&block(reference(1, 2), &[reference(2, 1)])).unwrap();
     // Round 3's block names a block of round 2, and one of round 1 past it.
     let later = block(reference(3, 3), &[reference(1, 2), reference(1, 1)]);
-    assert_eq!(store.linked(&log, &later, &reference(2, 1)), Ok(true));
-    assert_eq!(store.linked(&log, &later, &reference(1, 1)), Ok(false));
-    assert_eq!(store.linked(&log, &later, &reference(3, 3)), Ok(true));
-    assert_eq!(store.linked(&log, &later, &reference(1, 3)), Ok(false));
-    assert_eq!(store.linked(&log, &later[1..], &reference(1, 1)), Err(Refusal::Block));
+    assert_eq!(store.linked(&later, &reference(2, 1)), Ok(true));
+    assert_eq!(store.linked(&later, &reference(1, 1)), Ok(false));
+    assert_eq!(store.linked(&later, &reference(3, 3)), Ok(true));
+    assert_eq!(store.linked(&later, &reference(1, 3)), Ok(false));
+    assert_eq!(store.linked(&later[1..], &reference(1, 1)), Err(Refusal::Block));
 }
 
 #[test]

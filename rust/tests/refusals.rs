@@ -2,7 +2,7 @@
 mod common;
 
 use common::block;
-use kadzhomir::{BlockReference, BlockStore, Log, Refusal, RefusedAt, WalPosition};
+use kadzhomir::{BlockReference, Log, Refusal, RefusedAt, WalPosition};
 
 const EPOCH_MARKER: usize = 88;
 
@@ -14,7 +14,7 @@ fn own_block(authority: u64, round: u64) -> Vec<u8> {
 fn log(entries: &[(u32, &[u8])]) -> Log<Vec<u8>> {
     let mut log = Log::new(16, vec![0; 4096], 0);
     for (tag, payload) in entries {
-        log.append(*tag, payload).unwrap();
+        log.append_raw(*tag, payload).unwrap();
     }
     log
 }
@@ -23,14 +23,14 @@ fn log(entries: &[(u32, &[u8])]) -> Log<Vec<u8>> {
 fn first_log() -> Log<Vec<u8>> {
     let mut log = Log::new(6, vec![0; 128], 0);
     for (tag, payload) in [(2, &b"123456789"[..]), (4, b""), (2, b"123456789")] {
-        log.append(tag, payload).unwrap();
+        log.append_raw(tag, payload).unwrap();
     }
     log
 }
 
 /// What recovery for 4 authorities, of which 0 is the own one, refuses: the number and the start.
 fn recovery_of(entries: &[(u32, &[u8])]) -> (u8, u64) {
-    let RefusedAt { refusal, start } = log(entries).recover(4, 0).unwrap_err();
+    let RefusedAt { refusal, start } = log(entries).recover(4, 0).unwrap_err().refused;
     (refusal.number(), start.0)
 }
 
@@ -45,11 +45,11 @@ fn number<T: std::fmt::Debug>(answer: Result<T, Refusal>) -> u8 {
 
 #[test]
 fn append() {
-    assert_eq!(number(Log::new(5, vec![0; 64], 0).append(1, b"")), 1);
-    assert_eq!(number(Log::new(6, vec![0; 64], 65).append(1, b"")), 2);
-    assert_eq!(number(Log::new(6, vec![0; 128], 0).append(1, &[7; 49])), 3);
+    assert_eq!(number(Log::new(5, vec![0; 64], 0).append_raw(1, b"")), 1);
+    assert_eq!(number(Log::new(6, vec![0; 64], 65).append_raw(1, b"")), 2);
+    assert_eq!(number(Log::new(6, vec![0; 128], 0).append_raw(1, &[7; 49])), 3);
     let mut full = Log::new(6, vec![9; 88], 41);
-    assert_eq!(number(full.append(2, b"123456789")), 4);
+    assert_eq!(number(full.append_raw(2, b"123456789")), 4);
     assert_eq!((full.used(), full.image()), (41, &[9; 88][..]));
 }
 
@@ -88,13 +88,13 @@ fn recovery() {
     assert_eq!(recovery_of(&[state, (5, b"")]), (12, 17));
     assert_eq!(recovery_of(&[state, (1, &block(4, 1))]), (13, 17));
     assert_eq!(recovery_of(&[(3, &own_block(0, 3)), (1, &block(0, 3))]), (14, 185));
-    assert_eq!(log(&[]).recover(0, 0).unwrap_err().refusal.number(), 18);
-    assert_eq!(log(&[]).recover(4, 4).unwrap_err().refusal.number(), 18);
+    assert_eq!(log(&[]).recover(0, 0).unwrap_err().refused.refusal.number(), 18);
+    assert_eq!(log(&[]).recover(4, 4).unwrap_err().refused.refusal.number(), 18);
 }
 
 #[test]
 fn a_dropped_payload_need_not_decode() {
-    let recovered = log(&[(2, &[0; 7]), (3, &own_block(0, 1))]).recover(4, 0).unwrap();
+    let (_, recovered) = log(&[(2, &[0; 7]), (3, &own_block(0, 1))]).recover(4, 0).unwrap();
     assert_eq!(recovered.pending().count(), 0);
 }
 
@@ -102,23 +102,23 @@ fn a_dropped_payload_need_not_decode() {
 fn rows() {
     let blocks = [block(1, 1), block(2, 1), block(3, 1)];
     let log = log(&[(1, &blocks[0]), (1, &blocks[1]), (1, &blocks[2])]);
-    let refused = log.recover_in_rows(4, 0, [3, 2, 3, 3]).unwrap_err();
-    assert_eq!((refused.refusal.number(), refused.start.0), (15, 2 * 177));
-    assert_eq!(log.recover_in_rows(4, 0, [3, 3, 0, 3]).unwrap().unprocessed().count(), 3);
+    let not = log.recover_in_rows(4, 0, [3, 2, 3, 3]).unwrap_err();
+    assert_eq!((not.refused.refusal.number(), not.refused.start.0), (15, 2 * 177));
+    assert_eq!(not.log.recover_in_rows(4, 0, [3, 3, 0, 3]).unwrap().1.unprocessed().count(), 3);
 }
 
 #[test]
 fn tables_grow() {
     let mut log = Log::new(16, vec![0; 1 << 20], 0);
     for i in 0..5000 {
-        log.append(2, &[0; 8]).unwrap_or_else(|r| panic!("entry {i}: {r}"));
+        log.append_raw(2, &[0; 8]).unwrap_or_else(|r| panic!("entry {i}: {r}"));
     }
-    assert_eq!(log.recover(4, 0).unwrap().pending().count(), 5000);
-    let mut store = BlockStore::open(&Log::new(16, vec![0; 1 << 20], 0).recover(100, 0).unwrap()).unwrap();
+    let (mut store, recovered) = log.recover(100, 0).unwrap();
+    assert_eq!(recovered.pending().count(), 5000);
     for authority in 1..100 {
-        store.insert_block(&mut log, &block(authority, 1)).unwrap();
+        store.insert_block(&block(authority, 1)).unwrap();
     }
-    assert_eq!(store.get_blocks_by_round(&log, 1).unwrap().len(), 99);
+    assert_eq!(store.get_blocks_by_round(1).unwrap().len(), 99);
     assert_eq!((store.len_expensive(), store.loads()), (99, 0));
 }
 
@@ -133,21 +133,21 @@ fn read() {
 
 #[test]
 fn store() {
-    let mut log = log(&[(3, &own_block(0, 3))]);
-    let mut store = BlockStore::open(&log.recover(4, 0).unwrap()).unwrap();
-    let before = (log.image().to_vec(), log.used(), store.clone());
-    assert_eq!(number(store.insert_block(&mut log, &block(1, 1)[..160])), 9);
-    assert_eq!(number(store.insert_own_block(&mut log, &[0; 7])), 10);
-    assert_eq!(number(store.insert_block(&mut log, &block(4, 1))), 13);
-    assert_eq!(number(store.insert_own_block(&mut log, &own_block(0, 3))), 14);
-    assert_eq!(number(store.get_own_blocks(&log, u64::MAX, 1)), 19);
-    assert_eq!(number(store.get_others_blocks(&log, u64::MAX, 1, 1)), 19);
-    let other = Log::new(16, [0; 16], 16);
-    let own = BlockReference { authority: 0, round: 3, digest: [0; 32] };
-    assert_eq!(number(store.get_block(&other, &own)), 16);
-    let index_before: Vec<_> = before.2.index().collect();
-    assert_eq!(store.index().collect::<Vec<_>>(), index_before);
-    assert_eq!((log.image(), log.used(), store.loads()), (&before.0[..], before.1, 0));
+    let (mut store, _) = log(&[(3, &own_block(0, 3))]).recover(4, 0).unwrap();
+    let index: Vec<_> = store.index().collect();
+    let (image, used) = (store.log().image().to_vec(), store.log().used());
+    assert_eq!(number(store.insert_block(&block(1, 1)[..160])), 9);
+    assert_eq!(number(store.insert_own_block(&[0; 7])), 10);
+    assert_eq!(number(store.insert_block(&block(4, 1))), 13);
+    assert_eq!(number(store.insert_own_block(&own_block(0, 3))), 14);
+    assert_eq!(number(store.get_own_blocks(u64::MAX, 1)), 19);
+    assert_eq!(number(store.get_others_blocks(u64::MAX, 1, 1)), 19);
+    assert_eq!(store.index().collect::<Vec<_>>(), index);
+    assert_eq!((store.log().image(), store.log().used(), store.loads()), (&image[..], used, 0));
+    // The bytes of an image are its caller's to spoil.
+    store.image_mut()[..16].fill(0);
+    assert_eq!(number(store.get_block(&BlockReference { authority: 0, round: 3, digest: [0; 32] })), 16);
+    assert_eq!(store.loads(), 0);
 }
 
 #[test]

@@ -1,0 +1,126 @@
+use crate::Failure;
+use kadzhomir::{Options, WalPosition};
+use std::path::PathBuf;
+
+pub const HELP: &str = "\
+kadzhomir COMMAND FILE [OPTIONS]: look inside a node's log
+
+These change nothing, and may be used while the node runs:
+  list FILE        a line for each entry: position, tag, length, checksum;
+                   then where the log ends: END, ZEROS or TORN, the place, the
+                   bytes behind it; or REFUSED and the number
+  verify FILE      that last line alone, with the position of a refusal, and
+                   the length known to be on disk
+  recover FILE     what a node that opens this log would believe: counts, and
+                   the pending entries
+  dump FILE POS    the entry at a position, decoded
+
+These change the file. Stop the node first; keep a copy:
+  cut FILE         cut the log behind its last whole entry. What is cut off goes
+                   into a file of its own, FILE.aside-TIME-PLACE
+  cut FILE --at POS    the same at an earlier place: for a log that is damaged
+                   there. EVERYTHING BEHIND POS IS GIVEN UP, acknowledged or not
+  adopt FILE       make the node file of a log that has none
+
+Options:
+  --exponent K     the region exponent. Needed only where no node file (FILE.node)
+                   stands beside the log. A wrong one makes a log look short
+  --committee N --own A    the same for the committee's size and the own authority,
+                   for recover and adopt
+  --from POS       list from an entry's end on
+
+Exit status: 0 sound; 1 torn, or bytes unread; 2 damaged or refused; 64 a wrong
+call; 74 a file that cannot be read, written or locked.
+See docs/OPERATING.md and docs/REFUSALS.md.";
+
+/// The words of a call.
+#[derive(Debug, Default)]
+pub struct Arguments {
+    pub command: String,
+    pub file: PathBuf,
+    pub position: Option<WalPosition>,
+    pub exponent: Option<u64>,
+    pub committee: Option<u64>,
+    pub own: Option<u64>,
+    pub at: Option<WalPosition>,
+    pub from: Option<WalPosition>,
+}
+
+/// The commands, and whether they take a position and each of the options.
+const COMMANDS: [(&str, bool, &[&str]); 7] = [
+    ("list", false, &["--exponent", "--from"]),
+    ("verify", false, &["--exponent"]),
+    ("recover", false, &["--exponent", "--committee", "--own"]),
+    ("dump", true, &["--exponent"]),
+    ("cut", false, &["--exponent", "--at"]),
+    ("adopt", false, &["--exponent", "--committee", "--own"]),
+    ("help", false, &[]),
+];
+
+impl Arguments {
+    pub fn parse(mut words: impl Iterator<Item = String>) -> Result<Self, Failure> {
+        let command = words.next().ok_or_else(|| usage("no command was given"))?;
+        if ["help", "--help", "-h"].contains(&command.as_str()) {
+            return Ok(Self { command: "help".into(), ..Self::default() });
+        }
+        let (_, positioned, options) =
+            COMMANDS.iter().find(|c| c.0 == command).ok_or_else(|| usage(&format!("there is no command '{command}'")))?;
+        let mut parsed = Self { command, ..Self::default() };
+        let mut plain = Vec::new();
+        while let Some(word) = words.next() {
+            if word == "--help" || word == "-h" {
+                return Ok(Self { command: "help".into(), ..Self::default() });
+            }
+            if !word.starts_with("--") {
+                plain.push(word);
+            } else if options.contains(&word.as_str()) {
+                let value = words.next().ok_or_else(|| usage(&format!("{word} wants a number")))?;
+                parsed.set(&word, number(&value)?);
+            } else {
+                return Err(usage(&format!("'{}' has no option {word}", parsed.command)));
+            }
+        }
+        parsed.take(plain, *positioned)
+    }
+
+    fn set(&mut self, option: &str, value: u64) {
+        match option {
+            "--exponent" => self.exponent = Some(value),
+            "--committee" => self.committee = Some(value),
+            "--own" => self.own = Some(value),
+            "--at" => self.at = Some(WalPosition(value)),
+            _ => self.from = Some(WalPosition(value)),
+        }
+    }
+
+    fn take(mut self, plain: Vec<String>, positioned: bool) -> Result<Self, Failure> {
+        let wanted = if positioned { "a FILE and a POS" } else { "one FILE" };
+        if plain.len() != 1 + usize::from(positioned) {
+            return Err(usage(&format!("'{}' wants {wanted}", self.command)));
+        }
+        self.file = PathBuf::from(&plain[0]);
+        if positioned {
+            self.position = Some(WalPosition(number(&plain[1])?));
+        }
+        Ok(self)
+    }
+
+    /// What the log is to be opened with: of its node file, or given.
+    pub fn options(&self, recorded: Option<&kadzhomir::Settings>) -> Result<Options, Failure> {
+        let need = |given: Option<u64>, recorded: Option<u64>, name: &str| {
+            given.or(recorded).ok_or_else(|| usage(&format!("there is no node file beside this log: give {name}")))
+        };
+        let committee = need(self.committee, recorded.map(|s| s.committee_size), "--committee")?;
+        let own = need(self.own, recorded.map(|s| s.own), "--own")?;
+        let options = Options::new(committee, own);
+        Ok(self.exponent.map_or(options, |k| options.exponent(k)))
+    }
+}
+
+fn usage(what: &str) -> Failure {
+    Failure::Usage(what.to_string())
+}
+
+fn number(word: &str) -> Result<u64, Failure> {
+    word.parse().map_err(|_| usage(&format!("'{word}' is no number")))
+}

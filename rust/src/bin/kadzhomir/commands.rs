@@ -1,0 +1,202 @@
+use crate::arguments::{Arguments, HELP};
+use crate::{dump, Failure, Status};
+use kadzhomir::{Cut, Entries, Error, Log, Look, Node, Pending, Plan, RefusedAt, WalPosition};
+use std::io::{self, IsTerminal, Write};
+use std::time::{Duration, Instant};
+
+pub fn run(arguments: &Arguments, out: &mut impl Write) -> Result<Status, Failure> {
+    match arguments.command.as_str() {
+        "list" => list(arguments, out),
+        "verify" => verify(arguments, out),
+        "recover" => recover(arguments, out),
+        "dump" => dump::dump(&look(arguments)?, arguments.position.unwrap_or_default(), out),
+        "cut" => cut(arguments, out),
+        "adopt" => adopt(arguments, out),
+        _ => {
+            writeln!(out, "{HELP}")?;
+            Ok(Status::Sound)
+        }
+    }
+}
+
+fn look(arguments: &Arguments) -> Result<Look, Failure> {
+    Ok(Look::at(&arguments.file, arguments.exponent)?)
+}
+
+// ---- list and verify
+
+/// How a walk over a log ended.
+enum Ending {
+    Stopped { stop: kadzhomir::Stop, end: WalPosition, unread: u64 },
+    Refused(RefusedAt),
+}
+
+/// Walks with a progress line on a terminal, and hands on each entry.
+fn walk(log: &Log<Vec<u8>>, from: WalPosition, mut each: impl FnMut(&kadzhomir::Entry) -> io::Result<()>) -> Result<Ending, Failure> {
+    let mut entries: Entries = log.entries_from(from);
+    let mut progress = Progress::new(log.used());
+    while let Some(step) = entries.next() {
+        match step {
+            Ok(entry) => each(&entry)?,
+            Err(refused) => return Ok(Ending::Refused(refused)),
+        }
+        progress.tell(entries.end().0);
+    }
+    let stop = entries.stop().unwrap_or(kadzhomir::Stop::Zeros);
+    Ok(Ending::Stopped { stop, end: entries.end(), unread: log.used().saturating_sub(entries.end().0) })
+}
+
+/// The listing of the specification, to the byte.
+fn list(arguments: &Arguments, out: &mut impl Write) -> Result<Status, Failure> {
+    let look = look(arguments)?;
+    let line = |e: &kadzhomir::Entry| writeln!(out, "{} {} {} {:08x}", e.position, e.tag, e.len, e.checksum);
+    let ending = walk(look.log(), arguments.from.unwrap_or_default(), line)?;
+    if let Ending::Refused(RefusedAt { refusal, .. }) = ending {
+        writeln!(out, "REFUSED {}", refusal.number())?;
+        return Ok(Status::Damaged);
+    }
+    judged(&look, &ending, out)
+}
+
+fn verify(arguments: &Arguments, out: &mut impl Write) -> Result<Status, Failure> {
+    let look = look(arguments)?;
+    let ending = walk(look.log(), WalPosition(0), |_| Ok(()))?;
+    if let Ending::Refused(RefusedAt { refusal, start }) = ending {
+        writeln!(out, "REFUSED {} {start}", refusal.number())?;
+    }
+    let status = judged(&look, &ending, out)?;
+    let Some(settings) = look.settings() else { return Ok(status) };
+    writeln!(out, "known {}", settings.known)?;
+    let reached = match ending {
+        Ending::Stopped { end, .. } => end,
+        Ending::Refused(refused) => refused.start,
+    };
+    if reached.0 < settings.known {
+        writeln!(out, "DAMAGED {reached} {}", settings.known)?;
+        return Ok(Status::Damaged);
+    }
+    Ok(status)
+}
+
+/// The line of a stop, and what it says of the log.
+fn judged(look: &Look, ending: &Ending, out: &mut impl Write) -> Result<Status, Failure> {
+    let Ending::Stopped { stop, end, unread } = ending else { return Ok(Status::Damaged) };
+    writeln!(out, "{stop} {end} {unread}")?;
+    let known = look.settings().map_or(0, |s| s.known);
+    Ok(match unread {
+        _ if end.0 < known => Status::Damaged,
+        0 => Status::Sound,
+        _ => Status::Unread,
+    })
+}
+
+// ---- recover
+
+fn recover(arguments: &Arguments, out: &mut impl Write) -> Result<Status, Failure> {
+    let look = look(arguments)?;
+    let options = arguments.options(look.settings())?;
+    if look.log().used() >= LONG && io::stderr().is_terminal() {
+        eprintln!("recovering {} bytes ..", look.log().used());
+    }
+    match look.plan(&options) {
+        Ok(plan) => believed(&plan, out),
+        Err(error) => refused(error, out),
+    }
+}
+
+fn believed(plan: &Plan, out: &mut impl Write) -> Result<Status, Failure> {
+    let (store, recovered) = (&plan.store, &plan.recovered);
+    for RefusedAt { refusal, start } in &plan.cuts {
+        writeln!(out, "cut {} {start}", refusal.number())?;
+    }
+    writeln!(out, "{} {} {}", recovered.stop(), recovered.end(), plan.tail().len())?;
+    writeln!(out, "pending {}", recovered.pending().len())?;
+    writeln!(out, "unprocessed {}", recovered.unprocessed().len())?;
+    writeln!(out, "committed {}", recovered.committed().len())?;
+    writeln!(out, "indexed {}", store.len_expensive())?;
+    writeln!(out, "highest-round {}", store.highest_round())?;
+    for pending in recovered.pending() {
+        match pending {
+            Pending::Block { position, reference: r } => {
+                writeln!(out, "block {position} {} {} {}", r.authority, r.round, dump::hex(&r.digest))?;
+            }
+            Pending::Payload { position, len } => writeln!(out, "payload {position} {len}")?,
+        }
+    }
+    Ok(if plan.tail().is_empty() { Status::Sound } else { Status::Unread })
+}
+
+/// The lines of a log that no node would open.
+fn refused(error: Error, out: &mut impl Write) -> Result<Status, Failure> {
+    match &error {
+        Error::Damaged { position, known, refusal } => {
+            if let Some(refusal) = refusal {
+                writeln!(out, "REFUSED {} {position}", refusal.number())?;
+            }
+            writeln!(out, "DAMAGED {position} {known}")?;
+        }
+        Error::Refused { refusal, start } => writeln!(out, "REFUSED {} {}", refusal.number(), start.unwrap_or_default())?,
+        _ => return Err(error.into()),
+    }
+    out.flush()?;
+    Err(error.into())
+}
+
+// ---- cut and adopt
+
+fn cut(arguments: &Arguments, out: &mut impl Write) -> Result<Status, Failure> {
+    let cut = Cut::file(&arguments.file, arguments.exponent, arguments.at)?;
+    writeln!(out, "end {}", cut.end)?;
+    if let Some(aside) = cut.aside {
+        writeln!(out, "aside {} {}", aside.bytes, aside.path.display())?;
+    }
+    if cut.acknowledged > 0 {
+        writeln!(out, "acknowledged {}", cut.acknowledged)?;
+    }
+    Ok(Status::Sound)
+}
+
+fn adopt(arguments: &Arguments, out: &mut impl Write) -> Result<Status, Failure> {
+    let opened = match Node::adopt(&arguments.file, &arguments.options(None)?) {
+        Ok(opened) => opened,
+        Err(error) => return refused(error, out),
+    };
+    writeln!(out, "end {}", opened.node.known())?;
+    Ok(Status::Sound)
+}
+
+// ---- Progress
+
+/// A log whose walk takes long enough to say how far it is.
+const LONG: u64 = 1 << 26;
+
+/// A line on standard error that is written over, where that is a terminal and the log is long.
+struct Progress {
+    all: u64,
+    next: Option<Instant>,
+    told: bool,
+}
+
+impl Progress {
+    fn new(all: u64) -> Self {
+        let long = all >= LONG && io::stderr().is_terminal();
+        Self { all, next: long.then(Instant::now), told: false }
+    }
+
+    fn tell(&mut self, done: u64) {
+        let now = Instant::now();
+        if self.next.is_some_and(|next| next <= now) {
+            eprint!("\r{:3} % of {} bytes", done * 100 / self.all, self.all);
+            self.next = Some(now + Duration::from_millis(200));
+            self.told = true;
+        }
+    }
+}
+
+impl Drop for Progress {
+    fn drop(&mut self) {
+        if self.told {
+            eprint!("\r{:40}\r", "");
+        }
+    }
+}

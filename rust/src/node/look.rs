@@ -1,0 +1,90 @@
+//! A log's file, looked at and cut by hand: for tools, where a node does not run.
+use super::error::Error;
+use super::log_file::LogFile;
+use super::node_file::NodeFile;
+use super::{Aside, Options, Plan, Settings};
+use crate::{Log, WalPosition};
+use std::path::Path;
+
+/// A log's file as it was when it was read. Nothing is locked and nothing changes.
+#[derive(Debug)]
+pub struct Look {
+    log: Log<Vec<u8>>,
+    settings: Option<Settings>,
+}
+
+/// What a cut did.
+#[derive(Clone, Debug, PartialEq, Eq)]
+#[non_exhaustive]
+pub struct Cut {
+    /// Where the log ends now.
+    pub end: WalPosition,
+    /// Where the bytes behind it are; none where there were none, or zeros alone.
+    pub aside: Option<Aside>,
+    /// How many bytes that were known to be on disk were cut off.
+    pub acknowledged: u64,
+}
+
+impl Look {
+    /// Reads a log and, where it is there, its node file. Without one the exponent must be given; with one, another is refused.
+    pub fn at(path: impl AsRef<Path>, exponent: Option<u64>) -> Result<Self, Error> {
+        let path = path.as_ref();
+        let file = LogFile::look(path)?;
+        let settings = NodeFile::open_if_there(path, false)?.map(|f| f.settings());
+        let k = exponent_of(settings.as_ref(), exponent)?;
+        let image = file.read()?;
+        let used = image.len() as u64;
+        Ok(Self { log: Log::new(k, image, used), settings })
+    }
+
+    /// The log, of all bytes of the file.
+    pub fn log(&self) -> &Log<Vec<u8>> {
+        &self.log
+    }
+
+    /// What the node file says, where there is one.
+    pub fn settings(&self) -> Option<&Settings> {
+        self.settings.as_ref()
+    }
+
+    /// What a node that opens this log would believe. The committee and the own authority of a log without a node file must be given.
+    pub fn plan(self, options: &Options) -> Result<Plan, Error> {
+        let settings = self.settings.unwrap_or(options.settings(self.log.k(), 0));
+        options.check(&settings)?;
+        Plan::of(self.log.into_image(), &settings)
+    }
+}
+
+impl Cut {
+    /// Cuts a log at the end of its last whole entry that ends by `at`, or, where none is given, of its last one. What is cut off and is not
+    /// all zero is put into a file of its own first. A log that a walk refuses is not cut but at a place before the damage.
+    ///
+    /// This is for a log that cannot be opened: [`super::Node::open`] cuts what a crash left by itself, and never what was acknowledged.
+    pub fn file(path: impl AsRef<Path>, exponent: Option<u64>, at: Option<WalPosition>) -> Result<Self, Error> {
+        let path = path.as_ref();
+        let file = LogFile::open(path)?;
+        let mut node_file = NodeFile::open_if_there(path, true)?;
+        let k = exponent_of(node_file.as_ref().map(|f| f.settings()).as_ref(), exponent)?;
+        let image = file.read()?;
+        let used = at.map_or(image.len() as u64, |at| at.0.min(image.len() as u64));
+        let log = Log::new(k, image, used);
+        let end = log.walk()?.end;
+        let aside = file.set_aside(end.0, &log.image()[end.0 as usize..])?;
+        let known = node_file.as_ref().map_or(0, |f| f.settings().known);
+        // The node file first: a crash before the file is cut leaves bytes behind the known length, which is no damage.
+        if let Some(node_file) = node_file.as_mut().filter(|_| end.0 < known) {
+            node_file.set_known(end.0)?;
+        }
+        file.cut(end.0)?;
+        Ok(Self { end, aside, acknowledged: known.saturating_sub(end.0) })
+    }
+}
+
+/// The exponent that the node file has, or the one given; both are the same where both are there.
+fn exponent_of(recorded: Option<&Settings>, asked: Option<u64>) -> Result<u64, Error> {
+    match (recorded.map(|s| s.exponent), asked) {
+        (Some(recorded), Some(asked)) if recorded != asked => Err(Error::Mismatch { what: "exponent", recorded, asked }),
+        (Some(k), _) | (None, Some(k)) => Ok(k),
+        (None, None) => Err(Error::NoExponent),
+    }
+}

@@ -7,6 +7,7 @@
 //! - [`Log`]: append, read, walk, recover.
 //! - [`Recovered`]: what a log holds, and the log to go on with.
 //! - [`BlockStore`]: insert, cleanup and lookups.
+//! - [`BlockBuilder`], [`Payload`], [`OwnBlock`], [`Commit`]: what entries hold, encoded and decoded; [`Block`] is a view.
 #![deny(unsafe_code, missing_debug_implementations)]
 
 mod block;
@@ -14,14 +15,18 @@ mod block;
 #[rustfmt::skip]
 #[allow(clippy::too_many_arguments)]
 mod ffi;
+mod library;
 mod log;
+mod records;
 mod recovered;
 mod refusal;
 mod store;
 mod types;
 
 pub use block::Block;
+pub use library::{crc32, library_version, Version, VERSION};
 pub use log::{Entries, Entry, Log, Stop, Walked};
+pub use records::{encode_own_block, BlockBuilder, Commit, CommitData, OwnBlock, Payload, Statement, TransactionLocator, Vote};
 pub use recovered::{Indexed, Pending, Recovered};
 pub use refusal::{Refusal, RefusedAt};
 pub use store::{BlockStore, Found};

@@ -1,6 +1,6 @@
 //! The header serves a C and a C++ compiler that allow nothing beside the standard, a program in C links the archive, and the
 //! header's numbers are the crate's.
-use kadzhomir::{Refusal, Stop};
+use kadzhomir::{library_version, Refusal, Stop, Version, VERSION};
 use std::path::{Path, PathBuf};
 use std::process::Command;
 
@@ -16,9 +16,13 @@ fn run(command: &mut Command) {
     assert!(output.status.success(), "{command:?}: {text}");
 }
 
+fn header() -> String {
+    std::fs::read_to_string(here().join("../include/kadzhomir.h")).unwrap()
+}
+
 /// The names that begin so in the header's enums, with their numbers, in the header's order.
 fn numbers(prefix: &str) -> Vec<(String, u64)> {
-    let header = std::fs::read_to_string(here().join("../include/kadzhomir.h")).unwrap();
+    let header = header();
     let enumerators = header.lines().filter_map(|line| line.trim().trim_end_matches(',').split_once(" = "));
     let named = enumerators.filter_map(|(name, number)| Some((name.strip_prefix(prefix)?.to_string(), number.parse().unwrap())));
     named.collect()
@@ -56,8 +60,7 @@ fn program_in_c() {
 
 #[test]
 fn refusals_are_those_of_the_crate() {
-    let crates: Vec<(String, u64)> =
-        (1..=19).map(|n| (upper(&format!("{:?}", Refusal::from_number(n).unwrap())), n.into())).collect();
+    let crates: Vec<(String, u64)> = (1..=19).map(|n| (upper(&format!("{:?}", Refusal::from_number(n).unwrap())), n.into())).collect();
     let header = numbers("KADZHOMIR_REFUSAL_");
     assert_eq!(header[0], ("NONE".to_string(), 0));
     assert_eq!(header[1..], crates);
@@ -72,4 +75,15 @@ fn stops_are_those_of_the_crate() {
     let kinds = numbers("KADZHOMIR_KIND_");
     assert_eq!(kinds[0], ("ENTRY".to_string(), 0));
     assert_eq!(kinds[1..], crates.into_iter().map(|(name, n)| (name, n + 1)).collect::<Vec<_>>());
+}
+
+#[test]
+fn the_version_is_the_crates() {
+    let header = header();
+    let number = |part: &str| {
+        let line = header.lines().find_map(|line| line.strip_prefix(&format!("#define KADZHOMIR_VERSION_{part} ")));
+        line.unwrap().parse::<u32>().unwrap()
+    };
+    let version = (number("MAJOR") << 16) + (number("MINOR") << 8) + number("PATCH");
+    assert_eq!((Version::from(version), version), (VERSION, library_version()));
 }

@@ -9,9 +9,16 @@ mod tests;
 pub type StoreWords = [u64; 140];
 pub type ReferenceWords = [u64; 6];
 pub type RecoveredWords = [u64; 161];
+pub type LocatorWords = [u64; 7];
+pub type RangeWords = [u64; 8];
+pub type FieldsWords = [u64; 11];
+pub type StatementWords = [u64; 28];
+pub type EncodingWords = [u64; 2];
 
 mod c {
-    use super::{RecoveredWords, ReferenceWords, StoreWords};
+    use super::{
+        EncodingWords, FieldsWords, LocatorWords, RangeWords, RecoveredWords, ReferenceWords, StatementWords, StoreWords,
+    };
 
     extern "C" {
         pub fn kadzhomir_append(
@@ -81,6 +88,44 @@ mod c {
         ) -> u8;
         pub fn kadzhomir_decode_block(bytes: *const u8, bytes_len: usize, at: usize, answer: *mut [u64; 15]) -> u8;
         pub fn kadzhomir_include_at(bytes: *const u8, bytes_len: usize, place: usize, i: usize, answer: *mut [u64; 8]) -> u8;
+        pub fn kadzhomir_decode_statement(bytes: *const u8, bytes_len: usize, at: usize, answer: *mut StatementWords) -> u8;
+        pub fn kadzhomir_decode_payload(bytes: *const u8, bytes_len: usize, at: usize, answer: *mut [u64; 4]) -> u8;
+        pub fn kadzhomir_decode_own_block(bytes: *const u8, bytes_len: usize, at: usize, answer: *mut [u64; 16]) -> u8;
+        pub fn kadzhomir_decode_commit(bytes: *const u8, bytes_len: usize, at: usize, answer: *mut [u64; 6]) -> u8;
+        pub fn kadzhomir_decode_commit_data(bytes: *const u8, bytes_len: usize, at: usize, answer: *mut [u64; 10]) -> u8;
+        pub fn kadzhomir_encode_reference(
+            out: *mut u8, out_len: usize, at: usize, reference: *const ReferenceWords, answer: *mut EncodingWords,
+        ) -> u8;
+        pub fn kadzhomir_encode_share(
+            out: *mut u8, out_len: usize, at: usize, bytes: *const u8, bytes_len: usize, answer: *mut EncodingWords,
+        ) -> u8;
+        pub fn kadzhomir_encode_vote(
+            out: *mut u8, out_len: usize, at: usize, locator: *const LocatorWords, kind: u64, other: *const LocatorWords,
+            answer: *mut EncodingWords,
+        ) -> u8;
+        pub fn kadzhomir_encode_vote_range(
+            out: *mut u8, out_len: usize, at: usize, range: *const RangeWords, answer: *mut EncodingWords,
+        ) -> u8;
+        pub fn kadzhomir_encode_payload(
+            out: *mut u8, out_len: usize, at: usize, statements: *const u8, statements_len: usize, count: u64, answer: *mut EncodingWords,
+        ) -> u8;
+        pub fn kadzhomir_encode_block(
+            out: *mut u8, out_len: usize, at: usize, block: *const FieldsWords, signature: *const [u8; 64], includes: *const u8,
+            includes_len: usize, statements: *const u8, statements_len: usize, answer: *mut EncodingWords,
+        ) -> u8;
+        pub fn kadzhomir_encode_own_block(
+            out: *mut u8, out_len: usize, at: usize, next_entry: u64, block: *const u8, block_len: usize, answer: *mut EncodingWords,
+        ) -> u8;
+        pub fn kadzhomir_encode_commit_data(
+            out: *mut u8, out_len: usize, at: usize, leader: *const ReferenceWords, sub_dag: *const u8, sub_dag_len: usize, count: u64,
+            answer: *mut EncodingWords,
+        ) -> u8;
+        pub fn kadzhomir_encode_commit(
+            out: *mut u8, out_len: usize, at: usize, commits: *const u8, commits_len: usize, count: u64, state: *const u8,
+            state_len: usize, answer: *mut EncodingWords,
+        ) -> u8;
+        pub fn kadzhomir_crc32(bytes: *const u8, bytes_len: usize) -> u32;
+        pub fn kadzhomir_version() -> u32;
     }
 }
 
@@ -245,4 +290,78 @@ pub fn decode_block(bytes: &[u8], at: usize, answer: &mut [u64; 15]) -> u8 {
 
 pub fn include_at(bytes: &[u8], place: usize, i: usize, answer: &mut [u64; 8]) -> u8 {
     unsafe { c::kadzhomir_include_at(bytes.as_ptr(), bytes.len(), place, i, answer) }
+}
+
+pub fn decode_statement(bytes: &[u8], at: usize, answer: &mut StatementWords) -> u8 {
+    unsafe { c::kadzhomir_decode_statement(bytes.as_ptr(), bytes.len(), at, answer) }
+}
+
+pub fn decode_payload(bytes: &[u8], at: usize, answer: &mut [u64; 4]) -> u8 {
+    unsafe { c::kadzhomir_decode_payload(bytes.as_ptr(), bytes.len(), at, answer) }
+}
+
+pub fn decode_own_block(bytes: &[u8], at: usize, answer: &mut [u64; 16]) -> u8 {
+    unsafe { c::kadzhomir_decode_own_block(bytes.as_ptr(), bytes.len(), at, answer) }
+}
+
+pub fn decode_commit(bytes: &[u8], at: usize, answer: &mut [u64; 6]) -> u8 {
+    unsafe { c::kadzhomir_decode_commit(bytes.as_ptr(), bytes.len(), at, answer) }
+}
+
+pub fn decode_commit_data(bytes: &[u8], at: usize, answer: &mut [u64; 10]) -> u8 {
+    unsafe { c::kadzhomir_decode_commit_data(bytes.as_ptr(), bytes.len(), at, answer) }
+}
+
+pub fn encode_reference(out: &mut [u8], at: usize, reference: &ReferenceWords, answer: &mut EncodingWords) -> u8 {
+    unsafe { c::kadzhomir_encode_reference(out.as_mut_ptr(), out.len(), at, reference, answer) }
+}
+
+pub fn encode_share(out: &mut [u8], at: usize, bytes: &[u8], answer: &mut EncodingWords) -> u8 {
+    unsafe { c::kadzhomir_encode_share(out.as_mut_ptr(), out.len(), at, bytes.as_ptr(), bytes.len(), answer) }
+}
+
+pub fn encode_vote(out: &mut [u8], at: usize, locator: &LocatorWords, kind: u64, other: &LocatorWords, answer: &mut EncodingWords) -> u8 {
+    unsafe { c::kadzhomir_encode_vote(out.as_mut_ptr(), out.len(), at, locator, kind, other, answer) }
+}
+
+pub fn encode_vote_range(out: &mut [u8], at: usize, range: &RangeWords, answer: &mut EncodingWords) -> u8 {
+    unsafe { c::kadzhomir_encode_vote_range(out.as_mut_ptr(), out.len(), at, range, answer) }
+}
+
+pub fn encode_payload(out: &mut [u8], at: usize, statements: &[u8], count: u64, answer: &mut EncodingWords) -> u8 {
+    unsafe { c::kadzhomir_encode_payload(out.as_mut_ptr(), out.len(), at, statements.as_ptr(), statements.len(), count, answer) }
+}
+
+pub fn encode_block(
+    out: &mut [u8], at: usize, block: &FieldsWords, signature: &[u8; 64], includes: &[u8], statements: &[u8], answer: &mut EncodingWords,
+) -> u8 {
+    let (i, s) = (includes, statements);
+    unsafe {
+        c::kadzhomir_encode_block(
+            out.as_mut_ptr(), out.len(), at, block, signature, i.as_ptr(), i.len(), s.as_ptr(), s.len(), answer,
+        )
+    }
+}
+
+pub fn encode_own_block(out: &mut [u8], at: usize, next_entry: u64, block: &[u8], answer: &mut EncodingWords) -> u8 {
+    unsafe { c::kadzhomir_encode_own_block(out.as_mut_ptr(), out.len(), at, next_entry, block.as_ptr(), block.len(), answer) }
+}
+
+pub fn encode_commit_data(
+    out: &mut [u8], at: usize, leader: &ReferenceWords, sub_dag: &[u8], count: u64, answer: &mut EncodingWords,
+) -> u8 {
+    unsafe { c::kadzhomir_encode_commit_data(out.as_mut_ptr(), out.len(), at, leader, sub_dag.as_ptr(), sub_dag.len(), count, answer) }
+}
+
+pub fn encode_commit(out: &mut [u8], at: usize, commits: &[u8], count: u64, state: &[u8], answer: &mut EncodingWords) -> u8 {
+    let (c, s) = (commits, state);
+    unsafe { c::kadzhomir_encode_commit(out.as_mut_ptr(), out.len(), at, c.as_ptr(), c.len(), count, s.as_ptr(), s.len(), answer) }
+}
+
+pub fn crc32(bytes: &[u8]) -> u32 {
+    unsafe { c::kadzhomir_crc32(bytes.as_ptr(), bytes.len()) }
+}
+
+pub fn version() -> u32 {
+    unsafe { c::kadzhomir_version() }
 }

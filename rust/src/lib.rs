@@ -8,6 +8,8 @@
 //! - [`Log`]: append, read, walk and recover a log in memory that the caller brings.
 //! - [`BlockStore`]: a recovered log with its index: insert, cleanup and lookups.
 //! - [`Recovered`]: what a recovery found beside the index.
+//! - [`BlockBuilder`], [`Payload`], [`OwnBlock`], [`Commit`]: what entries hold, encoded and decoded; [`Block`] is a view.
+//! - [`Look`] and [`Cut`]: a log's file without a node, for tools.
 #![deny(unsafe_code, missing_docs, missing_debug_implementations)]
 
 mod block;
@@ -15,6 +17,7 @@ mod block;
 #[rustfmt::skip]
 #[allow(clippy::too_many_arguments)]
 mod ffi;
+mod library;
 mod log;
 mod node;
 mod records;
@@ -25,9 +28,10 @@ mod store;
 mod types;
 
 pub use block::Block;
+pub use library::{crc32, library_version, Version, VERSION};
 pub use log::{Entries, Entry, Log, Stop, Walked};
 pub use node::{Aside, Cut, Error, Look, Node, Opened, Options, Plan, Settings};
-pub use records::crc32;
+pub use records::{encode_own_block, BlockBuilder, Commit, CommitData, OwnBlock, Payload, Statement, TransactionLocator, Vote};
 pub use recovered::{Indexed, Pending, Recovered};
 pub use refusal::{NotRecovered, Refusal, RefusedAt};
 pub use store::{BlockStore, Found};

@@ -177,3 +177,150 @@ fn the_writer_goes_on_at_e() {
         assert_eq!(resumed(&words), (0, e));
     }
 }
+
+// ---- Records
+
+/// A block of digest 0 with an empty Share: reference, no includes, one statement of 12 zeros, time, epoch marker, signature.
+fn block_bytes() -> Vec<u8> {
+    let words = [1u64, 3, 32, 0, 0, 0, 0, 0, 1].map(u64::to_le_bytes).concat();
+    [&words[..], &[0; 12 + 16 + 1], &64u64.to_le_bytes(), &[5; 64]].concat()
+}
+
+/// A commit with one leader, without a sub-dag, and a state of three bytes.
+fn commit_bytes() -> Vec<u8> {
+    let words = [1u64, 1, 3, 32, 0, 0, 0, 0, 0, 3].map(u64::to_le_bytes).concat();
+    [&words[..], b"abc"].concat()
+}
+
+/// The number that an encoder returns, its answer, and whether it left the bytes as they were.
+fn encoded<const N: usize>(encode: impl FnOnce(&mut [u8], &mut EncodingWords) -> u8) -> (u8, EncodingWords, bool) {
+    let (mut out, mut answer) = ([0xee; N], [STALE; 2]);
+    let number = encode(&mut out, &mut answer);
+    (number, answer, out == [0xee; N])
+}
+
+#[test]
+fn what_decoders_answer() {
+    let block = block_bytes();
+    let mut w = [STALE; 15];
+    assert_eq!((decode_block(&block, 0, &mut w), w), (0, [1, 3, 1, 0, 0, 0, 0, 64, 0, 72, 1, 0, 0, 0, 173]));
+    let own = [&7u64.to_le_bytes()[..], &block, b"behind"].concat();
+    let mut w = [STALE; 16];
+    assert_eq!((decode_own_block(&own, 0, &mut w), w), (0, [1, 3, 1, 0, 0, 0, 0, 72, 0, 80, 1, 0, 0, 0, 181, 7]));
+    let mut w = [STALE; 4];
+    assert_eq!((decode_payload(&block, 64, &mut w), w), (0, [1, 72, 1, 84]));
+    let mut w = [STALE; 28];
+    assert_eq!((decode_statement(&block, 72, &mut w), w[0], w[1], w[2], w[3], w[27]), (0, 1, 0, 84, 0, 84));
+    assert_eq!(w[4..27], [0; 23]);
+    let mut w = [STALE; 6];
+    assert_eq!((decode_commit(&commit_bytes(), 0, &mut w), w), (0, [1, 8, 1, 80, 3, 83]));
+    let mut w = [STALE; 10];
+    assert_eq!((decode_commit_data(&commit_bytes(), 8, &mut w), w), (0, [1, 3, 1, 0, 0, 0, 0, 72, 0, 72]));
+}
+
+#[test]
+fn what_does_not_decode_leaves_zeros() {
+    for at in [0, 3, 120, 128, 129, usize::MAX] {
+        let bytes = [0xff; 128];
+        let (mut own, mut payload, mut statement) = ([STALE; 16], [STALE; 4], [STALE; 28]);
+        assert_eq!((decode_own_block(&bytes, at, &mut own), own), (0, [0; 16]));
+        assert_eq!((decode_payload(&bytes, at, &mut payload), payload), (0, [0; 4]));
+        assert_eq!((decode_statement(&bytes, at, &mut statement), statement), (0, [0; 28]));
+        let (mut commit, mut data) = ([STALE; 6], [STALE; 10]);
+        assert_eq!((decode_commit(&bytes, at, &mut commit), commit), (0, [0; 6]));
+        assert_eq!((decode_commit_data(&bytes, at, &mut data), data), (0, [0; 10]));
+    }
+}
+
+#[test]
+fn what_encoders_answer() {
+    let (reference, locator, range) = ([1; 6], [2; 7], [3; 8]);
+    assert_eq!(encoded::<56>(|out, a| encode_reference(out, 0, &reference, a)), (0, [1, 56], false));
+    assert_eq!(encoded::<20>(|out, a| encode_share(out, 4, b"abcd", a)), (0, [1, 20], false));
+    for (kind, size) in [(0, 72), (1, 73), (2, 137)] {
+        assert_eq!(encoded::<140>(|out, a| encode_vote(out, 1, &locator, kind, &locator, a)), (0, [1, 1 + size], false));
+    }
+    assert_eq!(encoded::<76>(|out, a| encode_vote_range(out, 0, &range, a)), (0, [1, 76], false));
+    assert_eq!(encoded::<32>(|out, a| encode_payload(out, 0, &[0; 24], 2, a)), (0, [1, 32], false));
+    let block = block_bytes();
+    assert_eq!(encoded::<200>(|out, a| encode_own_block(out, 9, 7, &block, a)), (0, [1, 9 + 8 + 173], false));
+    assert_eq!(encoded::<64>(|out, a| encode_commit_data(out, 0, &reference, &[], 0, a)), (0, [1, 64], false));
+    assert_eq!(encoded::<83>(|out, a| encode_commit(out, 0, &commit_bytes()[8..72], 1, b"abc", a)), (0, [1, 83], false));
+}
+
+/// The block above, made of its words: the epoch marker is set where its word is not 0.
+#[test]
+fn what_the_block_encoder_writes() {
+    for marker in [0, 1, u64::MAX] {
+        let (mut out, mut answer) = ([0xee; 180], [STALE; 2]);
+        let fields = [3, 1, 0, 0, 0, 0, 0, 1, 0, 0, marker];
+        assert_eq!((encode_block(&mut out, 2, &fields, &[5; 64], &[], &[0; 12], &mut answer), answer), (0, [1, 175]));
+        let mut wanted = block_bytes();
+        wanted[100] = (marker != 0).into();
+        assert_eq!((&out[..2], &out[2..175], &out[175..]), (&[0xee; 2][..], &wanted[..], &[0xee; 5][..]));
+    }
+}
+
+#[test]
+fn what_is_no_record_is_not_encoded() {
+    let (malformed, block, reference) = ((0, [0, 0], true), block_bytes(), [0; 6]);
+    for kind in [3, 256, 1 << 32, u64::MAX] {
+        assert_eq!(encoded::<200>(|out, a| encode_vote(out, 0, &[0; 7], kind, &[0; 7], a)), malformed);
+    }
+    // Another number of elements, bytes behind them, and no element.
+    for (bytes, count) in [(&[0; 12][..], 0), (&[0; 12], 2), (&[0; 13], 1), (&[0; 11], 1), (&[9; 12], 1), (&[], u64::MAX)] {
+        assert_eq!(encoded::<200>(|out, a| encode_payload(out, 0, bytes, count, a)), malformed);
+        let fields = [0, 0, 0, 0, 0, 0, 0, count, 0, 0, 0];
+        assert_eq!(encoded::<300>(|out, a| encode_block(out, 0, &fields, &[0; 64], &[], bytes, a)), malformed);
+        let fields = [0, 0, 0, 0, 0, 0, count, 0, 0, 0, 0];
+        assert_eq!(encoded::<300>(|out, a| encode_block(out, 0, &fields, &[0; 64], bytes, &[], a)), malformed);
+        assert_eq!(encoded::<300>(|out, a| encode_commit_data(out, 0, &reference, bytes, count, a)), malformed);
+        assert_eq!(encoded::<300>(|out, a| encode_commit(out, 0, bytes, count, b"", a)), malformed);
+    }
+    let behind = [&block[..], &[0]].concat();
+    for bytes in [&block[1..], &block[..172], &behind, &[]] {
+        assert_eq!(encoded::<300>(|out, a| encode_own_block(out, 0, 7, bytes, a)), malformed);
+    }
+}
+
+#[test]
+fn what_does_not_fit_is_not_encoded() {
+    let (no_room, block, reference) = ((0, [2, 0], true), block_bytes(), [0; 6]);
+    for at in [1, 8, 1000, usize::MAX] {
+        assert_eq!(encoded::<56>(|out, a| encode_reference(out, at, &reference, a)), no_room);
+        assert_eq!(encoded::<16>(|out, a| encode_share(out, at, b"abcd", a)), no_room);
+        for kind in [0, 1, 2] {
+            assert_eq!(encoded::<72>(|out, a| encode_vote(out, at, &[0; 7], kind, &[0; 7], a)), no_room);
+        }
+        assert_eq!(encoded::<76>(|out, a| encode_vote_range(out, at, &[0; 8], a)), no_room);
+        assert_eq!(encoded::<20>(|out, a| encode_payload(out, at, &[0; 12], 1, a)), no_room);
+        assert_eq!(encoded::<161>(|out, a| encode_block(out, at, &[0; 11], &[0; 64], &[], &[], a)), no_room);
+        assert_eq!(encoded::<181>(|out, a| encode_own_block(out, at, 7, &block, a)), no_room);
+        assert_eq!(encoded::<64>(|out, a| encode_commit_data(out, at, &reference, &[], 0, a)), no_room);
+        assert_eq!(encoded::<19>(|out, a| encode_commit(out, at, &[], 0, b"abc", a)), no_room);
+    }
+}
+
+#[test]
+fn the_checksum_of_published_vectors() {
+    assert_eq!((crc32(b""), crc32(b"a"), crc32(b"123456789")), (0, 0xe8b7_be43, 0xcbf4_3926));
+}
+
+/// The numbers of words in the header's enums are those of the arrays here.
+#[test]
+fn the_header_has_the_same_lengths() {
+    let header = std::fs::read_to_string(concat!(env!("CARGO_MANIFEST_DIR"), "/../include/kadzhomir.h")).unwrap();
+    let words = |bytes: usize| bytes / size_of::<u64>();
+    for (name, length) in [
+        ("REFERENCE", words(size_of::<ReferenceWords>())),
+        ("STORE", words(size_of::<StoreWords>())),
+        ("RECOVERED", words(size_of::<RecoveredWords>())),
+        ("LOCATOR", words(size_of::<LocatorWords>())),
+        ("RANGE", words(size_of::<RangeWords>())),
+        ("FIELDS", words(size_of::<FieldsWords>())),
+        ("STATEMENT", words(size_of::<StatementWords>())),
+        ("ENCODING", words(size_of::<EncodingWords>())),
+    ] {
+        assert!(header.contains(&format!("    KADZHOMIR_{name} = {length}\n")), "{name}");
+    }
+}

@@ -1,6 +1,6 @@
 //! Records as owned values: the bytes of each, written by hand from docs/LAYOUTS.md; round trips; and bytes that are no record.
 use kadzhomir::{
-    crc32, encode_own_block, library_version, Block, BlockBuilder, BlockReference, BlockStore, Commit, CommitData, Log, OwnBlock, Payload,
+    crc32, encode_own_block, library_version, Block, BlockBuilder, BlockReference, Commit, CommitData, Log, OwnBlock, Payload,
     Statement, TransactionLocator, Version, Vote, WalPosition, VERSION,
 };
 
@@ -222,25 +222,25 @@ fn other_bytes_end_the_iterators() {
 #[test]
 fn what_is_encoded_is_recovered() {
     let own = BlockBuilder::new(reference(0, 3)).include(reference(1, 2)).build();
-    let mut log = Log::new(16, vec![0; 8192], 0);
-    let mut store = BlockStore::open(&log.recover(4, 0).unwrap()).unwrap();
-    let first = log.append(2, &payload().0.encode()).unwrap();
-    store.insert_own_block(&mut log, &encode_own_block(first, &own).unwrap()).unwrap();
-    store.insert_block(&mut log, &builder().build()).unwrap();
-    log.append(5, &commit().0.encode()).unwrap();
-    let recovered = log.recover(4, 0).unwrap();
-    assert_eq!((recovered.pending().count(), recovered.index().count()), (2, 2));
+    let (mut store, _) = Log::new(16, vec![0; 8192], 0).recover(4, 0).unwrap();
+    let first = store.append_raw(2, &payload().0.encode()).unwrap();
+    store.insert_own_block(&encode_own_block(first, &own).unwrap()).unwrap();
+    store.insert_block(&builder().build()).unwrap();
+    store.append_raw(5, &commit().0.encode()).unwrap();
+    let (store, recovered) = store.into_log().recover(4, 0).unwrap();
+    let image = store.log().image();
+    assert_eq!((recovered.pending().count(), store.index().count()), (2, 2));
     assert_eq!(recovered.last_committed_leader(), Some(reference(2, 4)));
-    let last = OwnBlock::decode(&log.image()[recovered.last_own_block().unwrap()]).unwrap();
+    let last = OwnBlock::decode(&image[recovered.last_own_block().unwrap()]).unwrap();
     assert_eq!((last.next_entry, last.block.reference), (first, reference(0, 3)));
-    let found = store.get_transaction(&log, &reference(1, 3), 1).unwrap().unwrap();
-    assert_eq!(&log.image()[found], b"abc");
+    let found = store.get_transaction(&reference(1, 3), 1).unwrap().unwrap();
+    assert_eq!(&image[found], b"abc");
 }
 
 #[test]
 fn the_checksum_is_an_entrys() {
     let mut log = Log::new(16, vec![0; 64], 0);
-    let position = log.append(4, b"123456789").unwrap();
+    let position = log.append_raw(4, b"123456789").unwrap();
     assert_eq!(log.read(position).unwrap().checksum, crc32(b"123456789"));
     assert_eq!(crc32(&[]), 0);
 }

@@ -4,8 +4,8 @@ use crate::{Log, Refusal};
 
 fn recovery_of(tag: u32, bytes: &[u8]) -> Option<Refusal> {
     let mut log = Log::new(16, vec![0; 4096], 0);
-    log.append(tag, bytes).unwrap();
-    log.recover(4, 0).err().map(|refused| refused.refusal)
+    log.append_raw(tag, bytes).unwrap();
+    log.recover(4, 0).err().map(|not| not.refused.refusal)
 }
 
 #[test]

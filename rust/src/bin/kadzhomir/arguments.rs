@@ -23,10 +23,11 @@ These change the file. Stop the node first; keep a copy:
   adopt FILE       make the node file of a log that has none
 
 Options:
-  --exponent K     the region exponent. Needed only where no node file (FILE.node)
-                   stands beside the log. A wrong one makes a log look short
-  --committee N --own A    the same for the committee's size and the own authority,
-                   for recover and adopt
+  --exponent K     the region exponent. Needed only where no node file
+                   (FILE.node) stands beside the log. With a wrong one a log
+                   looks short or damaged
+  --committee N --own A    the same for the committee's size and the own
+                   authority, for recover and adopt
   --from POS       list from an entry's end on
 
 Exit status: 0 sound; 1 torn, or bytes unread; 2 damaged or refused; 64 a wrong

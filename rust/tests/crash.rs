@@ -62,13 +62,13 @@ fn starts(path: &Path, crashed: &Crashed, left: &[u8], what: &str) -> Listed {
     let mut node = Node::open(path, &options()).unwrap_or_else(|e| panic!("{what}: {e}")).node;
     let found = listed(K, node.log().image());
     assert!(found.starts_with(&crashed.acknowledged), "{what}");
-    assert_eq!(fs::read(path).unwrap(), node.log().image(), "{what}");
+    assert!(fs::read(path).unwrap() == node.log().image(), "{what}");
     let card = node.append_payload(&payload(b"after the crash")).unwrap();
     node.sync().unwrap();
     drop(node);
     let node = Node::open(path, &options()).unwrap_or_else(|e| panic!("{what}, then: {e}")).node;
     let again = listed(K, node.log().image());
-    assert_eq!(again[..found.len()], found, "{what}");
+    assert!(again[..found.len()] == found, "{what}");
     assert_eq!((again.len(), again[found.len()].0), (found.len() + 1, card.0), "{what}");
     found
 }
@@ -89,11 +89,13 @@ fn a_cut_at_every_byte_with_anything_behind() {
     let path = folder.file("log");
     for cut in new.known..=new.bytes.len() {
         let first = &new.bytes[..cut];
-        let fit = whole.iter().filter(|(start, _, payload)| *start as usize + 16 + payload.len() <= cut).count();
         let noise = random.bytes(300);
         for (name, behind) in [("nothing", &[][..]), ("zeros", &[0; 2000]), ("noise", &noise)] {
-            let found = starts(&path, &new, &[first, behind].concat(), &format!("cut at {cut}, {name} behind"));
-            assert_eq!(found, whole[..fit], "cut at {cut}, {name} behind");
+            let (left, what) = ([first, behind].concat(), format!("cut at {cut}, {name} behind"));
+            // An entry that ends in zeros is whole where its last bytes are lost and read as zeros.
+            let is_left = |end: usize| left.get(..end) == Some(&new.bytes[..end]);
+            let fit = whole.iter().filter(|(start, _, payload)| is_left(*start as usize + 16 + payload.len())).count();
+            assert!(starts(&path, &new, &left, &what) == whole[..fit], "{what}");
         }
         // Old entries may read as entries of this log: then they were never acknowledged.
         starts(&path, &new, &[first, &old[cut..]].concat(), &format!("cut at {cut}, old bytes behind"));

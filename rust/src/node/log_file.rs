@@ -86,7 +86,12 @@ impl LogFile {
             return Ok(None);
         }
         let (mut file, path) = self.create_aside(end)?;
-        file.write_all(tail).and_then(|()| file.sync_all()).map_err(Error::io("write", &path))?;
+        let written = file.write_all(tail).and_then(|()| file.sync_all());
+        if let Err(source) = written {
+            // On a full disk half of it helps nobody, and the log has the bytes still.
+            let _ = std::fs::remove_file(&path);
+            return Err(Error::io("write", &path)(source));
+        }
         sync_folder(&path)?;
         Ok(Some(Aside { path, bytes: tail.len() as u64 }))
     }
@@ -106,6 +111,13 @@ impl LogFile {
             }
         }
         unreachable!("a name that is free comes before 2^64")
+    }
+}
+
+/// The lock goes with the file, also where a process that is being started has a copy of its descriptor for a moment.
+impl Drop for LogFile {
+    fn drop(&mut self) {
+        let _ = self.file.unlock();
     }
 }
 

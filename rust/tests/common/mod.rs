@@ -58,6 +58,11 @@ impl Folder {
         if memory.is_dir() { Self::within(memory) } else { Self::on_disk() }
     }
 
+    /// Where every user can come.
+    pub fn for_all() -> Self {
+        Self::within(&std::env::temp_dir())
+    }
+
     fn within(parent: &Path) -> Self {
         static COUNT: AtomicU64 = AtomicU64::new(0);
         let n = COUNT.fetch_add(1, Ordering::Relaxed);

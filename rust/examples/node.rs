@@ -5,16 +5,29 @@
 //! It creates the log at PATH or opens the one there, and tells on standard error what it found. For each line of standard input it logs a
 //! card and syncs; once that has returned it writes `card POSITION`: from then on no crash loses the card. Every eight cards it makes an
 //! own block of those that are pending and writes `block ROUND POSITION`. Kill it at any moment and start it again.
-use kadzhomir::{encode_own_block, BlockBuilder, BlockReference, Error, Node, Options, Payload, Pending, Recovered, Statement, WalPosition};
+use kadzhomir::{
+    encode_own_block, BlockBuilder, BlockReference, Error, Node, Options, Payload, Pending, Recovered, Statement, WalPosition,
+};
 use std::io::{BufRead, Write};
 use std::path::Path;
+use std::process::ExitCode;
 
 const OFFICES: u64 = 4;
 const OWN: u64 = 0;
 /// How many cards a block takes up.
 const CARDS: usize = 8;
 
-fn main() -> Result<(), Box<dyn std::error::Error>> {
+fn main() -> ExitCode {
+    match run() {
+        Ok(()) => ExitCode::SUCCESS,
+        Err(error) => {
+            eprintln!("node: {error}");
+            ExitCode::FAILURE
+        }
+    }
+}
+
+fn run() -> Result<(), Box<dyn std::error::Error>> {
     let path = std::env::args().nth(1).ok_or("usage: node PATH")?;
     let (mut node, mut pending) = start(Path::new(&path))?;
     for card in std::io::stdin().lock().lines() {

@@ -214,12 +214,7 @@ impl<B: AsRef<[u8]>> Log<B> {
     }
 
     /// The same with this many rows for pending, unprocessed, committed and index.
-    pub fn recover_in_rows(
-        self,
-        committee_size: u64,
-        own: u64,
-        rows: [usize; 4],
-    ) -> Result<(BlockStore<B>, Recovered), NotRecovered<B>> {
+    pub fn recover_in_rows(self, committee_size: u64, own: u64, rows: [usize; 4]) -> Result<(BlockStore<B>, Recovered), NotRecovered<B>> {
         let answer = Recovered::in_rows(self.view(), committee_size, own, rows);
         BlockStore::opened(self, committee_size, own, answer)
     }

@@ -86,7 +86,9 @@ impl Recovered {
         let mut rows = rows::needed(view);
         loop {
             match Self::in_rows(view, committee_size, own, rows) {
-                Err(RefusedAt { refusal: Refusal::Rows, .. }) if rows.iter().any(|n| *n < most) => rows = rows.map(|n| most.min(2 * n + 16)),
+                Err(RefusedAt { refusal: Refusal::Rows, .. }) if rows.iter().any(|n| *n < most) => {
+                    rows = rows.map(|n| most.min(2 * n + 16))
+                }
                 answer => return answer,
             }
         }

@@ -151,10 +151,12 @@ fn spawn(path: &Path) -> Child {
 fn feed_and_kill(path: &Path, first: usize, after: Duration) -> usize {
     let mut child = spawn(path);
     let (mut cards, answers) = (child.stdin.take().unwrap(), BufReader::new(child.stdout.take().unwrap()));
-    let feeder = std::thread::spawn(move || for n in first.. {
-        // Until the node is gone.
-        if writeln!(cards, "card {n}").is_err() {
-            return;
+    let feeder = std::thread::spawn(move || {
+        for n in first.. {
+            // Until the node is gone.
+            if writeln!(cards, "card {n}").is_err() {
+                return;
+            }
         }
     });
     let killer = std::thread::spawn(move || {

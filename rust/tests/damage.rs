@@ -1,5 +1,5 @@
 //! Which damage is detected and which is not (docs/OPERATING.md): the statement and the examples of `crates/burst`, on the archive.
-use kadzhomir::{Recovered, Log, Refusal, RefusedAt, Stop, WalPosition, Walked};
+use kadzhomir::{Log, Recovered, Refusal, RefusedAt, Stop, WalPosition, Walked};
 
 fn log_of(k: u64, entries: &[(u32, &[u8])]) -> Log<Vec<u8>> {
     let mut log = Log::new(k, vec![0; 128], 0);

@@ -339,6 +339,9 @@ fn debug_is_short() {
     let path = folder.file("log");
     let mut node = Node::create(&path, &options()).unwrap();
     node.append_state(&[7; 100_000]).unwrap();
-    let opened = { drop(node); open(&path).unwrap() };
+    let opened = {
+        drop(node);
+        open(&path).unwrap()
+    };
     assert!(format!("{opened:?}").len() < 2000, "{opened:?}");
 }

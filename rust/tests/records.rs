@@ -1,7 +1,7 @@
 //! Records as owned values: the bytes of each, written by hand from docs/LAYOUTS.md; round trips; and bytes that are no record.
 use kadzhomir::{
-    crc32, encode_own_block, library_version, Block, BlockBuilder, BlockReference, Commit, CommitData, Log, OwnBlock, Payload,
-    Statement, TransactionLocator, Version, Vote, WalPosition, VERSION,
+    crc32, encode_own_block, library_version, Block, BlockBuilder, BlockReference, Commit, CommitData, Log, OwnBlock, Payload, Statement,
+    TransactionLocator, Version, Vote, WalPosition, VERSION,
 };
 
 /// Parts one behind the other: bytes by hand, without the encoders.
@@ -82,20 +82,22 @@ fn commit() -> (Commit, Vec<u8>) {
     (Commit { commits, state: b"state".to_vec() }, laid(&[&le(2), &first_commit(), &second, &le(5), b"state"]))
 }
 
-/// A decoder that says whether it found a record, for what all of them do alike.
-type Decodes = fn(&[u8]) -> bool;
+/// Decodes a record and encodes it again.
+type Again = fn(&[u8]) -> Option<Vec<u8>>;
 
-/// The bytes of every record, with its decoder.
-fn records() -> Vec<(Vec<u8>, Decodes)> {
-    let mut records: Vec<(Vec<u8>, Decodes)> = vec![
-        (reference_bytes(2, 7), |b| BlockReference::decode(b).is_some()),
-        (payload().1, |b| Payload::decode(b).is_some()),
-        (block_bytes(), |b| Block::decode(b, 0).is_some()),
-        (laid(&[&le(7), &block_bytes()]), |b| OwnBlock::decode(b).is_some()),
-        (first_commit(), |b| CommitData::decode(b).is_some()),
-        (commit().1, |b| Commit::decode(b).is_some()),
+/// The bytes of every record, with its decoder and encoder.
+fn records() -> Vec<(Vec<u8>, Again)> {
+    let own_block: Again = |b| OwnBlock::decode(b).map(|own| encode_own_block(own.next_entry, &b[own.block_bytes()]).unwrap());
+    let statement: Again = |b| Statement::decode(b).map(|s| s.encode());
+    let mut records: Vec<(Vec<u8>, Again)> = vec![
+        (reference_bytes(2, 7), |b| BlockReference::decode(b).map(|r| r.encode())),
+        (payload().1, |b| Payload::decode(b).map(|p| p.encode())),
+        (block_bytes(), |b| Block::decode(b, 0).map(|block| block.to_builder(b).unwrap().build())),
+        (laid(&[&le(7), &block_bytes()]), own_block),
+        (first_commit(), |b| CommitData::decode(b).map(|c| c.encode())),
+        (commit().1, |b| Commit::decode(b).map(|c| c.encode())),
     ];
-    records.extend(statements().into_iter().map(|(_, bytes)| (bytes, (|b| Statement::decode(b).is_some()) as Decodes)));
+    records.extend(statements().into_iter().map(|(_, bytes)| (bytes, statement)));
     records
 }
 
@@ -153,23 +155,37 @@ fn an_own_block_written_by_hand() {
 
 #[test]
 fn every_truncation_is_refused() {
-    for (bytes, decodes) in records() {
-        assert!(decodes(&bytes));
-        assert_eq!((0..bytes.len()).find(|n| decodes(&bytes[..*n])), None, "of {} bytes", bytes.len());
+    for (bytes, again) in records() {
+        assert_eq!(again(&bytes).as_ref(), Some(&bytes));
+        assert_eq!((0..bytes.len()).find(|n| again(&bytes[..*n]).is_some()), None, "of {} bytes", bytes.len());
     }
 }
 
 #[test]
 fn trailing_bytes_are_not_looked_at() {
-    for (bytes, decodes) in records() {
-        for behind in [&[0][..], &[0xff; 100]] {
-            assert!(decodes(&laid(&[&bytes, behind])));
+    for (bytes, again) in records() {
+        for behind in [&[0][..], &[0xff; 100], &bytes] {
+            assert_eq!(again(&laid(&[&bytes, behind])).as_ref(), Some(&bytes));
         }
     }
-    let (value, bytes) = payload();
-    assert_eq!(Payload::decode(&laid(&[&bytes, &bytes])), Some(value));
-    let (value, bytes) = commit();
-    assert_eq!(Commit::decode(&laid(&[&bytes, b"behind"])), Some(value));
+}
+
+/// A record has one encoding: whatever decodes has its bytes again, however one of them was changed.
+#[test]
+fn what_decodes_is_encoded_to_the_same_bytes() {
+    let mut decoded = 0;
+    for (bytes, again) in records() {
+        for i in 0..bytes.len() {
+            for byte in [0, 1, 2, bytes[i] ^ 0x80, 0xff] {
+                let mut changed = bytes.clone();
+                changed[i] = byte;
+                let Some(encoded) = again(&changed) else { continue };
+                assert!(changed.starts_with(&encoded), "byte {i} of {} is {byte}", bytes.len());
+                decoded += 1;
+            }
+        }
+    }
+    assert!(decoded > 1000);
 }
 
 /// Counts that bytes cannot have: none is believed, and none makes room before it is looked at.

@@ -30,18 +30,24 @@ static size_t encoded(const char *what, uint8_t returned, size_t end) {
     return end;
 }
 
-/* A block without includes, with a Share of the state. */
-static size_t put_block(uint8_t *out, size_t out_len) {
+/* A block with a Share of the state. The first block of a chain includes none, the others one. */
+static size_t put_block(uint8_t *out, size_t out_len, uint64_t round, uint64_t authority, const uint64_t *included) {
     static const uint8_t signature[KADZHOMIR_BYTES_SIGNATURE] = { 0 };
-    uint8_t share[KADZHOMIR_BYTES_SHARE + STATE_BYTES];
+    uint8_t share[KADZHOMIR_BYTES_SHARE + STATE_BYTES], includes[KADZHOMIR_BYTES_REFERENCE];
     uint64_t fields[KADZHOMIR_FIELDS] = { 0 };
+    size_t bytes = included ? sizeof includes : 0;
 
     encoded("share", kadzhomir_encode_share(share, sizeof share, 0, state, sizeof state, answer), sizeof share);
-    memcpy(fields + KADZHOMIR_FIELDS_REFERENCE, reference, sizeof reference);
+    if (included) encoded("include", kadzhomir_encode_reference(includes, sizeof includes, 0, included, answer), bytes);
+    (fields + KADZHOMIR_FIELDS_REFERENCE)[KADZHOMIR_REFERENCE_ROUND] = round;
+    (fields + KADZHOMIR_FIELDS_REFERENCE)[KADZHOMIR_REFERENCE_AUTHORITY] = authority;
+    fields[KADZHOMIR_FIELDS_INCLUDES_NUMBER] = included != NULL;
     fields[KADZHOMIR_FIELDS_STATEMENTS_NUMBER] = 1;
     fields[KADZHOMIR_FIELDS_TIME_LOW] = 77;
-    return encoded("block", kadzhomir_encode_block(out, out_len, 0, fields, signature, NULL, 0, share, sizeof share, answer),
-        KADZHOMIR_BYTES_BLOCK + sizeof share);
+    fields[KADZHOMIR_FIELDS_TIME_HIGH] = 78;
+    fields[KADZHOMIR_FIELDS_EPOCH_MARKER] = 1;
+    return encoded("block", kadzhomir_encode_block(out, out_len, 0, fields, signature, includes, bytes, share, sizeof share, answer),
+        KADZHOMIR_BYTES_BLOCK + bytes + sizeof share);
 }
 
 static uint8_t recover(uint64_t k, uint64_t used) {
@@ -50,23 +56,33 @@ static uint8_t recover(uint64_t k, uint64_t used) {
 }
 
 static void serves_a_log(void) {
-    uint64_t appended[KADZHOMIR_APPENDED], walked[KADZHOMIR_WALKED], entry[KADZHOMIR_ENTRY], used;
+    uint64_t appended[KADZHOMIR_APPENDED], walked[KADZHOMIR_WALKED], entry[KADZHOMIR_ENTRY], step[KADZHOMIR_STEP], used;
 
     expect("append", kadzhomir_append(K, 0, image, sizeof image, KADZHOMIR_TAG_STATE, state, sizeof state, appended), 0);
     used = appended[KADZHOMIR_APPENDED_USED];
     expect("used", used, ENTRY_BYTES);
     expect("read", kadzhomir_read(K, image, sizeof image, used, appended[KADZHOMIR_APPENDED_POSITION], entry), 0);
     expect("tag", entry[KADZHOMIR_ENTRY_TAG], KADZHOMIR_TAG_STATE);
+    expect("length", entry[KADZHOMIR_ENTRY_LENGTH], STATE_BYTES);
     expect("checksum", entry[KADZHOMIR_ENTRY_CHECKSUM], kadzhomir_crc32(state, sizeof state));
+    expect("step", kadzhomir_walk_step(K, image, sizeof image, used, 0, step), 0);
+    expect("step's kind", step[KADZHOMIR_STEP_KIND], KADZHOMIR_KIND_ENTRY);
+    expect("step's position", step[KADZHOMIR_STEP_POSITION], entry[KADZHOMIR_ENTRY_POSITION]);
+    expect("step's tag", step[KADZHOMIR_STEP_TAG], entry[KADZHOMIR_ENTRY_TAG]);
+    expect("step's length", step[KADZHOMIR_STEP_LENGTH], entry[KADZHOMIR_ENTRY_LENGTH]);
+    expect("step's checksum", step[KADZHOMIR_STEP_CHECKSUM], entry[KADZHOMIR_ENTRY_CHECKSUM]);
+    expect("last step", kadzhomir_walk_step(K, image, sizeof image, used, used, step), 0);
+    expect("last step's kind", step[KADZHOMIR_STEP_KIND], KADZHOMIR_KIND_END);
     expect("walk", kadzhomir_walk(K, image, sizeof image, used, walked), 0);
     expect("stop", walked[KADZHOMIR_WALKED_STOP], KADZHOMIR_STOP_END);
     expect("end", walked[KADZHOMIR_WALKED_END], used);
+    expect("unread", walked[KADZHOMIR_WALKED_UNREAD], 0);
 }
 
 static void serves_a_store(void) {
     uint64_t inserted[KADZHOMIR_INSERTED], looked[KADZHOMIR_LOOKED], out[KADZHOMIR_ROW], used;
     uint8_t block[256];
-    size_t n = put_block(block, sizeof block);
+    size_t n = put_block(block, sizeof block, ROUND, AUTHORITY, NULL);
 
     expect("recover", recover(K, ENTRY_BYTES), 0);
     expect("state's bytes", recovered[KADZHOMIR_RECOVERED_STATE_BYTES], STATE_BYTES);
@@ -88,15 +104,129 @@ static void serves_a_store(void) {
     expect("used again", used, ENTRY_BYTES);
 }
 
+static uint64_t append(uint64_t *used, uint32_t tag, const uint8_t *payload, size_t n) {
+    uint64_t appended[KADZHOMIR_APPENDED];
+
+    expect("append", kadzhomir_append(K, *used, image, sizeof image, tag, payload, n, appended), 0);
+    *used = appended[KADZHOMIR_APPENDED_USED];
+    return appended[KADZHOMIR_APPENDED_POSITION];
+}
+
+/* A log with every tag: a state, a block, a payload and the own block that leaves it pending, another block, a commit. */
+enum { STATE_AT, BLOCK_AT, PAYLOAD_AT, OWN_AT, OTHER_AT, COMMIT_AT, POSITIONS };
+static uint64_t at[POSITIONS];
+
+static uint64_t whole_log(void) {
+    uint8_t bytes[512], list[512], out[512];
+    uint64_t used = 0;
+    size_t n;
+
+    memset(image, 0, sizeof image);
+    at[STATE_AT] = append(&used, KADZHOMIR_TAG_STATE, state, sizeof state);
+    at[BLOCK_AT] = append(&used, KADZHOMIR_TAG_BLOCK, bytes, put_block(bytes, sizeof bytes, ROUND, AUTHORITY, NULL));
+    kadzhomir_encode_payload(out, sizeof out, 0, NULL, 0, 0, answer);
+    at[PAYLOAD_AT] = append(&used, KADZHOMIR_TAG_PAYLOAD, out, (size_t)answer[KADZHOMIR_ENCODING_END]);
+    n = put_block(bytes, sizeof bytes, ROUND + 1, OWN, reference);
+    kadzhomir_encode_own_block(out, sizeof out, 0, at[PAYLOAD_AT], bytes, n, answer);
+    at[OWN_AT] = append(&used, KADZHOMIR_TAG_OWN_BLOCK, out, (size_t)answer[KADZHOMIR_ENCODING_END]);
+    at[OTHER_AT] = append(&used, KADZHOMIR_TAG_BLOCK, bytes, put_block(bytes, sizeof bytes, ROUND + 2, AUTHORITY + 1, NULL));
+    kadzhomir_encode_reference(bytes, sizeof bytes, 0, reference, answer);
+    kadzhomir_encode_commit_data(list, sizeof list, 0, reference, bytes, KADZHOMIR_BYTES_REFERENCE, 1, answer);
+    kadzhomir_encode_commit(out, sizeof out, 0, list, (size_t)answer[KADZHOMIR_ENCODING_END], 1, state, sizeof state, answer);
+    at[COMMIT_AT] = append(&used, KADZHOMIR_TAG_COMMIT, out, (size_t)answer[KADZHOMIR_ENCODING_END]);
+    return used;
+}
+
+/* The words of a recovery, by their names. */
+static void serves_a_recovery(void) {
+    uint64_t end = whole_log();
+
+    expect("recover all", recover(K, end), 0);
+    expect("end", recovered[KADZHOMIR_RECOVERED_END], end);
+    expect("unread", recovered[KADZHOMIR_RECOVERED_UNREAD], 0);
+    expect("pending", recovered[KADZHOMIR_RECOVERED_PENDING], 2);
+    expect("unprocessed", recovered[KADZHOMIR_RECOVERED_UNPROCESSED], 3);
+    expect("committed", recovered[KADZHOMIR_RECOVERED_COMMITTED], 1);
+    expect("index", recovered[KADZHOMIR_RECOVERED_INDEX], 3);
+    expect("last own block there", recovered[KADZHOMIR_RECOVERED_LAST_OWN_BLOCK_THERE], 1);
+    expect("last own block", recovered[KADZHOMIR_RECOVERED_LAST_OWN_BLOCK_PLACE], at[OWN_AT] + KADZHOMIR_HEADER_BYTES);
+    expect("its end", recovered[KADZHOMIR_RECOVERED_LAST_OWN_BLOCK_PLACE] + recovered[KADZHOMIR_RECOVERED_LAST_OWN_BLOCK_BYTES], at[OTHER_AT]);
+    expect("state there", recovered[KADZHOMIR_RECOVERED_STATE_THERE], 1);
+    expect("state", recovered[KADZHOMIR_RECOVERED_STATE_PLACE], at[STATE_AT] + KADZHOMIR_HEADER_BYTES);
+    expect("state's bytes", recovered[KADZHOMIR_RECOVERED_STATE_BYTES], STATE_BYTES);
+    expect("committed state there", recovered[KADZHOMIR_RECOVERED_COMMITTED_STATE_THERE], 1);
+    expect("committed state", recovered[KADZHOMIR_RECOVERED_COMMITTED_STATE_PLACE], end - STATE_BYTES);
+    expect("committed state's bytes", recovered[KADZHOMIR_RECOVERED_COMMITTED_STATE_BYTES], STATE_BYTES);
+    expect("leader there", recovered[KADZHOMIR_RECOVERED_LEADER_THERE], 1);
+    expect("leader", (uint64_t)memcmp(recovered + KADZHOMIR_RECOVERED_LEADER, reference, sizeof reference), 0);
+    expect("own block there", recovered[KADZHOMIR_RECOVERED_OWN_BLOCK_THERE], 1);
+    expect("own block", (recovered + KADZHOMIR_RECOVERED_OWN_BLOCK)[KADZHOMIR_REFERENCE_ROUND], ROUND + 1);
+    expect("highest round", recovered[KADZHOMIR_RECOVERED_HIGHEST_ROUND], ROUND + 2);
+    expect("last seen", (recovered + KADZHOMIR_RECOVERED_LAST_SEEN)[AUTHORITY + 1], ROUND + 2);
+    expect("last seen of all", KADZHOMIR_RECOVERED - KADZHOMIR_RECOVERED_LAST_SEEN, KADZHOMIR_AUTHORITIES);
+}
+
+/* The words of the tables' rows: those of the recovery above. */
+static void serves_rows(void) {
+    const uint64_t *second = pending + KADZHOMIR_ROW;
+
+    expect("pending payload", pending[KADZHOMIR_PENDING_KIND], KADZHOMIR_PENDING_KIND_PAYLOAD);
+    expect("its position", pending[KADZHOMIR_PENDING_POSITION], at[PAYLOAD_AT]);
+    expect("its bytes", pending[KADZHOMIR_PENDING_BYTES], KADZHOMIR_BYTES_PAYLOAD);
+    expect("pending block", second[KADZHOMIR_PENDING_KIND], KADZHOMIR_PENDING_KIND_BLOCK);
+    expect("its round", (second + KADZHOMIR_PENDING_REFERENCE)[KADZHOMIR_REFERENCE_ROUND], ROUND + 2);
+    expect("unprocessed block", (uint64_t)memcmp(unprocessed + KADZHOMIR_UNPROCESSED_REFERENCE, reference, sizeof reference), 0);
+    expect("its position", unprocessed[KADZHOMIR_UNPROCESSED_POSITION], at[BLOCK_AT]);
+    expect("committed block", (uint64_t)memcmp(committed + KADZHOMIR_COMMITTED_REFERENCE, reference, sizeof reference), 0);
+    expect("indexed block", (uint64_t)memcmp(rows + KADZHOMIR_INDEXED_REFERENCE, reference, sizeof reference), 0);
+    expect("its position", rows[KADZHOMIR_INDEXED_POSITION], at[BLOCK_AT]);
+    expect("not loaded", rows[KADZHOMIR_INDEXED_LOADED], 0);
+}
+
+/* The words of a store, and of its other calls, on the same log. */
+static void serves_questions(void) {
+    uint64_t told[KADZHOMIR_TOLD], found[KADZHOMIR_TRANSACTION], linked[KADZHOMIR_LINKED], cleaned[KADZHOMIR_CLEANED];
+    uint64_t inserted[KADZHOMIR_INSERTED], work[WORDS], used = recovered[KADZHOMIR_RECOVERED_END];
+    uint8_t later[512];
+    size_t n = put_block(later, sizeof later, ROUND + 1, AUTHORITY + 2, reference);
+
+    expect("open", kadzhomir_open(SIZE, OWN, recovered, store), 0);
+    expect("size", store[KADZHOMIR_STORE_COMMITTEE_SIZE], SIZE);
+    expect("own", store[KADZHOMIR_STORE_OWN_AUTHORITY], OWN);
+    expect("rows", store[KADZHOMIR_STORE_ROWS], 3);
+    expect("own block there", store[KADZHOMIR_STORE_OWN_BLOCK_THERE], 1);
+    expect("own block", (store + KADZHOMIR_STORE_OWN_BLOCK)[KADZHOMIR_REFERENCE_ROUND], ROUND + 1);
+    expect("last seen", (store + KADZHOMIR_STORE_LAST_SEEN)[AUTHORITY], ROUND);
+    expect("exists", kadzhomir_block_exists(K, image, sizeof image, used, store, rows, WORDS, reference, told), 0);
+    expect("it does", told[KADZHOMIR_TOLD_YES], 1);
+    expect("transaction", kadzhomir_get_transaction(K, image, sizeof image, used, store, rows, WORDS, reference, 0, found), 0);
+    expect("there is one", found[KADZHOMIR_TRANSACTION_THERE], 1);
+    expect("its bytes", found[KADZHOMIR_TRANSACTION_BYTES], STATE_BYTES);
+    expect("as shared", (uint64_t)memcmp(image + found[KADZHOMIR_TRANSACTION_PLACE], state, sizeof state), 0);
+    expect("loads", store[KADZHOMIR_STORE_LOADS], 1);
+    expect("linked", kadzhomir_linked(K, image, sizeof image, used, store, rows, WORDS, later, n, reference, work, WORDS, linked), 0);
+    expect("it is", linked[KADZHOMIR_LINKED_YES], 1);
+    expect("insert", kadzhomir_insert_block(K, used, image, sizeof image, store, rows, WORDS, later, n, inserted), 0);
+    used = inserted[KADZHOMIR_INSERTED_USED];
+    expect("cleanup", kadzhomir_cleanup(K, image, sizeof image, used, store, rows, WORDS, ROUND + 1, cleaned), 0);
+    expect("unloaded", cleaned[KADZHOMIR_CLEANED_BLOCKS], 1);
+}
+
 static void serves_blocks(void) {
-    uint64_t block[KADZHOMIR_BLOCK], own[KADZHOMIR_OWN_BLOCK], statement[KADZHOMIR_STATEMENT];
+    uint64_t block[KADZHOMIR_BLOCK], own[KADZHOMIR_OWN_BLOCK], statement[KADZHOMIR_STATEMENT], include[KADZHOMIR_INCLUDE];
     uint8_t bytes[256], out[512];
-    size_t n = put_block(bytes, sizeof bytes), end;
+    size_t n = put_block(bytes, sizeof bytes, ROUND, AUTHORITY, reference), end;
 
     expect("decode_block", kadzhomir_decode_block(bytes, n, 0, block), 0);
     expect("block", block[KADZHOMIR_BLOCK_OK], 1);
     expect("round", (block + KADZHOMIR_BLOCK_REFERENCE)[KADZHOMIR_REFERENCE_ROUND], ROUND);
+    expect("includes", block[KADZHOMIR_BLOCK_INCLUDES_NUMBER], 1);
+    kadzhomir_include_at(bytes, n, (size_t)block[KADZHOMIR_BLOCK_INCLUDES], 0, include);
+    expect("include", (uint64_t)memcmp(include + KADZHOMIR_INCLUDE_REFERENCE, reference, sizeof reference), 0);
+    expect("statements", block[KADZHOMIR_BLOCK_STATEMENTS_NUMBER], 1);
     expect("time", block[KADZHOMIR_BLOCK_TIME_LOW], 77);
+    expect("time's high half", block[KADZHOMIR_BLOCK_TIME_HIGH], 78);
+    expect("epoch marker", block[KADZHOMIR_BLOCK_EPOCH_MARKER], 1);
     expect("end of the block", block[KADZHOMIR_BLOCK_END], n);
     kadzhomir_decode_statement(bytes, n, (size_t)block[KADZHOMIR_BLOCK_STATEMENTS], statement);
     expect("share", statement[KADZHOMIR_STATEMENT_KIND], KADZHOMIR_STATEMENT_KIND_SHARE);
@@ -186,6 +316,9 @@ int main(void) {
     expect("version", kadzhomir_version(), KADZHOMIR_VERSION);
     serves_a_log();
     serves_a_store();
+    serves_a_recovery();
+    serves_rows();
+    serves_questions();
     serves_blocks();
     serves_payloads();
     serves_commits();

@@ -142,7 +142,9 @@ impl fmt::Display for Error {
                     write!(f, " (refusal {}: {})", refusal.number(), refusal.meaning())?;
                 }
             }
-            Error::UnreadTail { end, unread } => write!(f, "the {unread} bytes behind the last whole entry, which ends at {end}, are not zero")?,
+            Error::UnreadTail { end, unread } => {
+                write!(f, "the {unread} bytes behind the last whole entry, which ends at {end}, are not zero")?
+            }
             Error::Failed => f.write_str("an earlier write or sync failed")?,
         }
         write!(f, "; {}", self.remedy())

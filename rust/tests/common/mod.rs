@@ -55,7 +55,11 @@ impl Folder {
     /// In memory where that is to be had: for tests that only need files, thousands of times.
     pub fn in_memory() -> Self {
         let memory = Path::new("/dev/shm");
-        if memory.is_dir() { Self::within(memory) } else { Self::on_disk() }
+        if memory.is_dir() {
+            Self::within(memory)
+        } else {
+            Self::on_disk()
+        }
     }
 
     /// Where every user can come.

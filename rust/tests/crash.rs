@@ -138,6 +138,32 @@ fn lose_pages(random: &mut Random, crashed: &Crashed) -> Vec<u8> {
     left
 }
 
+/// Where nothing was acknowledged, every file is served: cut at its first bad entry, or at 0.
+#[test]
+fn whatever_the_bytes_a_node_starts() {
+    let (folder, mut random) = (Folder::in_memory(), Random(4));
+    let path = folder.file("log");
+    let mut nothing = crashed(&folder, &mut random, 0, 30);
+    assert_eq!((nothing.known, nothing.acknowledged.len()), (0, 0));
+    for round in 0..1500 {
+        let mut left = nothing.bytes.clone();
+        for _ in 0..random.below(4) {
+            let (at, n) = (random.below(left.len() as u64) as usize, 1 + random.below(40) as usize);
+            let to = left.len().min(at + n);
+            let noise = random.bytes(to - at);
+            left[at..to].copy_from_slice(&noise);
+        }
+        if round % 3 == 0 {
+            let len = random.below(3000) as usize;
+            left = random.bytes(len);
+        }
+        starts(&path, &nothing, &left, &format!("round {round}"));
+        if round % 100 == 0 {
+            nothing = crashed(&folder, &mut random, 0, 30);
+        }
+    }
+}
+
 /// The example node beside the tool: cargo builds both for the tests.
 fn example() -> PathBuf {
     Path::new(env!("CARGO_BIN_EXE_kadzhomir")).with_file_name("examples").join("node")

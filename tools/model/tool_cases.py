@@ -226,7 +226,8 @@ def cut():
     yield [("cut torn", (torn, 0)), ("verify torn", LogFile(MORE[:end], KNOWN).verify())]
     yield [("cut sound", (["end %d" % KNOWN], 0)), ("verify sound", LOGS["sound"].verify())]
     yield [("cut zeros", (["end %d" % KNOWN], 0)), ("verify zeros", LOGS["sound"].verify())]
-    yield [("cut damaged", ([], 2)), ("verify damaged", LOGS["damaged"].verify())]
+    for name in ["damaged", "hidden", "short"]:
+        yield [("cut " + name, ([], 2)), ("verify " + name, LOGS[name].verify())]
     at = AT[2]
     given_up = ["end %d" % at, "aside %d damaged.aside-TIME-%d" % (KNOWN - at, at), "acknowledged %d" % (KNOWN - at)]
     yield [("cut damaged --at %d" % at, (given_up, 0)), ("recover damaged", LogFile(DATA[:at], at).recover())]

@@ -57,7 +57,8 @@ impl Look {
 
 impl Cut {
     /// Cuts a log at the end of its last whole entry that ends by `at`, or, where none is given, of its last one. What is cut off and is not
-    /// all zero is put into a file of its own first. A log that a walk refuses is not cut but at a place before the damage.
+    /// all zero is put into a file of its own first. A log that a walk refuses is not cut but at a place before the damage, and only by
+    /// `at` are bytes cut off that were known to be on disk.
     ///
     /// This is for a log that cannot be opened: [`super::Node::open`] cuts what a crash left by itself, and never what was acknowledged.
     pub fn file(path: impl AsRef<Path>, exponent: Option<u64>, at: Option<WalPosition>) -> Result<Self, Error> {
@@ -69,8 +70,11 @@ impl Cut {
         let used = at.map_or(image.len() as u64, |at| at.0.min(image.len() as u64));
         let log = Log::new(k, image, used);
         let end = log.walk()?.end;
-        let aside = file.set_aside(end.0, &log.image()[end.0 as usize..])?;
         let known = node_file.as_ref().map_or(0, |f| f.settings().known);
+        if at.is_none() && end.0 < known {
+            return Err(Error::Damaged { position: end, known, refusal: None });
+        }
+        let aside = file.set_aside(end.0, &log.image()[end.0 as usize..])?;
         // The node file first: a crash before the file is cut leaves bytes behind the known length, which is no damage.
         if let Some(node_file) = node_file.as_mut().filter(|_| end.0 < known) {
             node_file.set_known(end.0)?;

@@ -1,3 +1,6 @@
 pub mod Cutting
 pub mod Scans
 pub mod Images
+pub mod Settling
+pub mod Calls
+pub mod Durability

@@ -4,3 +4,4 @@ pub mod Images
 pub mod Settling
 pub mod Calls
 pub mod Durability
+pub mod Examples

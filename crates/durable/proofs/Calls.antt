@@ -14,8 +14,9 @@ use Rattle.replay.specs.Recovery.{Lent, Recovery, refused, recovered, recover}
 use Rattle.recovered.specs.declared.Recovered.{Recovered}
 use Rattle.recovered.specs.Answers.{refusedAnswer}
 use Rattle.replay_log.specs.Answers.{recoveredOf, Tables, rowsLent, Answers, RecoverAnswers}
-use Rattle.durable.specs.Durable.{HoldsFirst, CutAt, Serves, Called}
-use Rattle.durable.proofs.Images.{Accepted, walk-stops, walk-refused, recovers, recovery-refused}
+use Rattle.durable.specs.Durable.{HoldsFirst, CutAt, CallServed, Called}
+use Rattle.durable.proofs.Recoveries.{Accepted}
+use Rattle.durable.proofs.Images.{walk-stops, walk-refused, recovers, recovery-refused}
 
 -- ---- What an answer says of its definition
 
@@ -61,15 +62,14 @@ module _ (k L : ℕ) (s : List ℕ) (size own : ℕ) (lent : Lent) {word : Stop}
     says-lent : Answers used own (recover k t used size own lent) before r after
     says-lent = subst (λ (m : Lent). Answers used own (recover k t used size own m) before r after) same says
 
-    call-stopped : (v : code.Stop) (e : WalPosition) (unread : ℕ) → r .walked ≡ Walked·Stopped v e unread → Serves L l used own (e .0) before r after
+    call-stopped : (v : code.Stop) (e : WalPosition) (unread : ℕ) → r .walked ≡ Walked·Stopped v e unread
+        → CallServed k L size own lent l t used (e .0) before r after
     call-stopped v e unread is =
         let it = answer-stopped used own (recover k t used size own lent) (ap (λ (x : Recovered). x .walked) (sym (says-lent .answer)) ∙ is) in
-        let fine = recovers k L s size own lent at t used h (it .0) (e .0) (it .1) (it .2) in
         record {
-          from = fine .0;
           word = it .0;
           entries = it .1;
-          begins = fine .1;
+          served = recovers k L s size own lent at t used h (it .0) (e .0) (it .1) (it .2);
           answers = subst (λ (x : Recovery). Answers used own x before r after) (it .2) says-lent;
         }
 

@@ -1,6 +1,7 @@
 -- The theorem: nothing that was acknowledged is lost. Assumes nothing.
 use Rattle.durable.specs.Durable.{Durability}
-use Rattle.durable.proofs.Images.{accepted, walk-lists, walk-stops, walk-refused, recovers, recovery-refused}
+use Rattle.durable.proofs.Recoveries.{accepted}
+use Rattle.durable.proofs.Images.{walk-lists, walk-stops, walk-refused, recovers, recovery-refused}
 use Rattle.durable.proofs.Settling.{cut-step, cuts-down}
 use Rattle.durable.proofs.Calls.{called}
 

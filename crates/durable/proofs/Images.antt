@@ -21,42 +21,17 @@ use Rattle.replay_log.proofs.Scanning.{concluded, replayedFrom, replayed-whole}
 use Rattle.replay_log.proofs.Accepted.{Replayed, replay-scanned, unless-recovered}
 use Rattle.cut.specs.Cut.{ruled}
 use Rattle.cut.proofs.Recovering.{walk-is, recover-is}
-use Rattle.durable.specs.Durable.{HoldsFirst, AllEndBy, AllStartFrom, BeginsWith, Lists, CutAt}
+use Rattle.durable.specs.Durable.{HoldsFirst, AllEndBy, Lists, Served, CutAt}
 use Rattle.durable.proofs.Cutting.{end-earlier, both-end, Place, refusal-place, Within, from-within, Stops, stops-at}
-use Rattle.durable.proofs.Scans.{scan-on, concluded-place, scan-begins, accepted-decodes}
+use Rattle.durable.proofs.Scans.{scan-on, concluded-place, scan-begins}
+use Rattle.durable.proofs.Recoveries.{Accepted, accepted, resumes, recovers-to-end}
 
 -- ---- At L
-
--- a recovery that is not refused: it passes 1, 2 and 18, and is the replay of the walk
-pub record Accepted (k : ℕ) (s : List ℕ) (used size own : ℕ) (lent : Lent) (word : Stop) (e : ℕ) (l : List ReplayEntry) : Type 0 where
-  pub sound : Sound k used (length s)
-  pub committee : committeeCheck size own ≡ 0
-  pub replays : replayed size own lent (walkAt k s used 0 0) ≡ recovered word e l
-  pub read : Replayed size own lent (walkAt k s used 0 0) word e l
-  pub decodes : badPayload (pending l) ≡ none
-
-pub accepted : (k : ℕ) (s : List ℕ) (used size own : ℕ) (lent : Lent) {word : Stop} {e : ℕ} {l : List ReplayEntry}
-    → recover k s used size own lent ≡ recovered word e l → Accepted k s used size own lent word e l
-unfolding recover
-accepted k s used size own lent h =
-    let w : Walk = walkAt k s used 0 0 in
-    let log = unless-recovered (logCheck k used (length s)) (unless (committeeCheck size own) (λ n. refused n 0) (replayed size own lent w)) h in
-    let committee = unless-recovered (committeeCheck size own) (replayed size own lent w) (log .1) in
-    record {
-      sound = passed-sound k used (length s) (log .0);
-      committee = committee .0;
-      replays = committee .1;
-      read = replay-scanned size own lent w (committee .1);
-      decodes = accepted-decodes size own lent w (committee .1);
-    }
 
 module _ (k L : ℕ) (s : List ℕ) (size own : ℕ) (lent : Lent) {word : Stop} {l : List ReplayEntry} (at : Accepted k s L size own lent word L l) where
   -- the entries up to L
   abbrev acknowledged : List Entry
   acknowledged = walkAt k s L 0 0 .entries
-
-  resumes : Resumes k s L 0 L acknowledged
-  resumes = walk-resumes k (at .sound .low) s L (at .sound .within) (λ i. record { entries = acknowledged; ending = at .read .ends i })
 
   acknowledged-end : AllEndBy L acknowledged
   acknowledged-end = from-within k (at .sound .low) s L (at .sound .within) 0 (omega arith) .ends
@@ -72,7 +47,7 @@ module _ (k L : ℕ) (s : List ℕ) (size own : ℕ) (lent : Lent) {word : Stop}
     rest = walkAt k t used L L
 
     walk-on : walk k t used ≡ onwards acknowledged rest
-    walk-on = walk-is k t used sound ∙ resumes .same t used (h .from) (sym (h .same))
+    walk-on = walk-is k t used sound ∙ resumes k s L size own lent at .same t used (h .from) (sym (h .same))
 
     rest-within : Within k (at .sound .low) t used (sound .within) L rest
     rest-within = from-within k (at .sound .low) t used (sound .within) L (h .from)
@@ -112,7 +87,7 @@ module _ (k L : ℕ) (s : List ℕ) (size own : ℕ) (lent : Lent) {word : Stop}
         ∙ replayed-whole size own lent (onwards acknowledged rest)
         ∙ ap (λ (x : Scanned). concluded x (rest .ending)) (scan-on size own lent [] acknowledged (rest .entries) (at .read .scans))
 
-    pub recovers : (w : Stop) (e : ℕ) (m : List ReplayEntry) → recover k t used size own lent ≡ recovered w e m → (L ≤ e) × BeginsWith l m
+    pub recovers : (w : Stop) (e : ℕ) (m : List ReplayEntry) → recover k t used size own lent ≡ recovered w e m → Served k L size own lent l t e m
     unfolding onwards
     recovers w e m is =
         let there = accepted k t used size own lent is in
@@ -121,7 +96,11 @@ module _ (k L : ℕ) (s : List ℕ) (size own : ℕ) (lent : Lent) {word : Stop}
         sym (scan-on size own lent [] acknowledged (rest .entries) (at .read .scans))
         ∙ ap (λ (x : Walk). scan size own lent [] (x .entries)) (sym same)
         ∙ there .read .scans in
-        (rest-within .stops w e (ap (λ (x : Walk). x .ending) (sym same) ∙ there .read .ends) .0, scan-begins size own lent l (rest .entries) scans)
+        record {
+          from = rest-within .stops w e (ap (λ (x : Walk). x .ending) (sym same) ∙ there .read .ends) .0;
+          begins = scan-begins size own lent l (rest .entries) scans;
+          again = recovers-to-end k t used size own lent there;
+        }
 
     -- ---- A cut at one of the places of the walk from L on
 
@@ -145,7 +124,7 @@ module _ (k L : ℕ) (s : List ℕ) (size own : ℕ) (lent : Lent) {word : Stop}
       unfolding onwards
       walks-there =
           walk-is k t p sound-there
-          ∙ resumes .same t p (holds-again .from) (sym (h .same))
+          ∙ resumes k s L size own lent at .same t p (holds-again .from) (sym (h .same))
           ∙ ap (onwards acknowledged) (there .walks)
 
       recovers-there : (size own : ℕ) (lent : Lent) → recover k t p size own lent

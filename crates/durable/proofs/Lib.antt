@@ -1,5 +1,6 @@
 pub mod Cutting
 pub mod Scans
+pub mod Recoveries
 pub mod Images
 pub mod Settling
 pub mod Calls

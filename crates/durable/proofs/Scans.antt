@@ -138,12 +138,12 @@ pub record Adds (before : List ReplayEntry) (entries : List Entry) (l : List Rep
 
 module _ (size own : ℕ) (lent : Lent) where
   module _ (before : List ReplayEntry) (a : Entry) (later : List Entry) where
-    scan-passes : {i : Item} → entryCheck size own lent before a ≡ item i
+    pub scan-passes : {i : Item} → entryCheck size own lent before a ≡ item i
         → scan size own lent before (a ∷ later) ≡ scan size own lent (before ++ (record { entry = a; item = i } ∷ [])) later
     unfolding scan
     scan-passes h = rw h
 
-    scan-refuses : {n : ℕ} → entryCheck size own lent before a ≡ refuse n → scan size own lent before (a ∷ later) ≡ refusedAt n (a .start)
+    pub scan-refuses : {n : ℕ} → entryCheck size own lent before a ≡ refuse n → scan size own lent before (a ∷ later) ≡ refusedAt n (a .start)
     unfolding scan
     scan-refuses h = rw h
 

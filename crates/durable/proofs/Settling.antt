@@ -11,7 +11,8 @@ use Rattle.replay.specs.Items.{ReplayEntry}
 use Rattle.replay.specs.Recovery.{Lent, Recovery, refused, recovered, recover}
 use Rattle.durable.specs.Durable.{HoldsFirst, CutAt, asksForRows, Settled, cutFrom, cutDown, cutStep, NothingLost, CutsDown}
 use Rattle.durable.proofs.Cutting.{start-later, both-start}
-use Rattle.durable.proofs.Images.{Accepted, all-within, recovers, recovery-refused}
+use Rattle.durable.proofs.Recoveries.{Accepted}
+use Rattle.durable.proofs.Images.{all-within, recovers, recovery-refused}
 
 -- ---- One time around
 
@@ -34,9 +35,13 @@ module _ (k : ℕ) (t : List ℕ) (size own : ℕ) (lent : Lent) (n used m p : �
   step-cuts h = rw (h, cutStep)
 
 module _ (k L : ℕ) (s : List ℕ) (size own : ℕ) (lent : Lent) {word : Stop} {l : List ReplayEntry} (at : Accepted k s L size own lent word L l) (t : List ℕ) where
+  nothing-lost : (used : ℕ) → HoldsFirst L s t used → (w : Stop) (e : ℕ) (m : List ReplayEntry) → recover k t used size own lent ≡ recovered w e m
+      → NothingLost L l (recovered w e m)
+  nothing-lost used h w e m is = let served = recovers k L s size own lent at t used h w e m is in (served .from, served .begins)
+
   -- no cut is needed
   stays : (used : ℕ) → HoldsFirst L s t used → (x : Recovery) → recover k t used size own lent ≡ x → NothingLost L l x
-      → CutsDown k L s size own lent l t used (record { used = used; answer = x })
+      → CutsDown k L size own lent l t used (record { used = used; answer = x })
   stays used h x is fine =
       record {
         from = h .from;
@@ -50,7 +55,7 @@ module _ (k L : ℕ) (s : List ℕ) (size own : ℕ) (lent : Lent) {word : Stop}
       }
 
   -- a cut, and what follows it
-  cuts : (used p : ℕ) → CutAt k L s t used p → (to : Settled) → CutsDown k L s size own lent l t p to → CutsDown k L s size own lent l t used to
+  cuts : (used p : ℕ) → CutAt k L s t used p → (to : Settled) → CutsDown k L size own lent l t p to → CutsDown k L size own lent l t used to
   cuts used p at to later =
       let kept : walk k t p .entries ≡ at .before = ap (λ (w : Walk). w .entries) (at .walks) in
       record {
@@ -68,38 +73,38 @@ module _ (k L : ℕ) (s : List ℕ) (size own : ℕ) (lent : Lent) {word : Stop}
       }
 
   settles : (n used : ℕ) → used ≤ n → HoldsFirst L s t used
-      → CutsDown k L s size own lent l t used (cutFrom k t size own lent n used (recover k t used size own lent))
+      → CutsDown k L size own lent l t used (cutFrom k t size own lent n used (recover k t used size own lent))
   unfolding cutFrom asksForRows
   settles zero used most h = from (recover k t used size own lent) refl
     where
-      from : (x : Recovery) → recover k t used size own lent ≡ x → CutsDown k L s size own lent l t used (record { used = used; answer = recover k t used size own lent })
+      from : (x : Recovery) → recover k t used size own lent ≡ x → CutsDown k L size own lent l t used (record { used = used; answer = recover k t used size own lent })
       from (recovered w e m) is =
-          stays used h (recover k t used size own lent) refl (subst (NothingLost L l) (sym is) (recovers k L s size own lent at t used h w e m is))
+          stays used h (recover k t used size own lent) refl (subst (NothingLost L l) (sym is) (nothing-lost used h w e m is))
       from (refused i p) is = absurd (omega (arith, recovery-refused k L s size own lent at t used h i p is .ahead))
   settles (suc n) used most h = from (λ p. settles n p) (recover k t used size own lent) refl
     where
-      goes : ((p : ℕ) → p ≤ n → HoldsFirst L s t p → CutsDown k L s size own lent l t p (cutFrom k t size own lent n p (recover k t p size own lent)))
+      goes : ((p : ℕ) → p ≤ n → HoldsFirst L s t p → CutsDown k L size own lent l t p (cutFrom k t size own lent n p (recover k t p size own lent)))
           → (i p : ℕ) → recover k t used size own lent ≡ refused i p → (b : Bool) → asksForRows i ≡ b
-          → CutsDown k L s size own lent l t used (cutFrom k t size own lent (suc n) used (refused i p))
+          → CutsDown k L size own lent l t used (cutFrom k t size own lent (suc n) used (refused i p))
       goes later i p is true asks =
-          subst (CutsDown k L s size own lent l t used) (sym (cut-asks k t size own lent n used i p asks))
+          subst (CutsDown k L size own lent l t used) (sym (cut-asks k t size own lent n used i p asks))
           (stays used h (refused i p) is (eqb-true i 15 asks, recovery-refused k L s size own lent at t used h i p is .from))
       goes later i p is false cuts-on =
           let place = recovery-refused k L s size own lent at t used h i p is in
-          subst (CutsDown k L s size own lent l t used) (sym (cut-cuts k t size own lent n used i p cuts-on))
+          subst (CutsDown k L size own lent l t used) (sym (cut-cuts k t size own lent n used i p cuts-on))
           (cuts used p place (cutFrom k t size own lent n p (recover k t p size own lent)) (later p (omega (arith, place .ahead)) (place .again)))
 
-      from : ((p : ℕ) → p ≤ n → HoldsFirst L s t p → CutsDown k L s size own lent l t p (cutFrom k t size own lent n p (recover k t p size own lent)))
+      from : ((p : ℕ) → p ≤ n → HoldsFirst L s t p → CutsDown k L size own lent l t p (cutFrom k t size own lent n p (recover k t p size own lent)))
           → (x : Recovery) → recover k t used size own lent ≡ x
-          → CutsDown k L s size own lent l t used (cutFrom k t size own lent (suc n) used (recover k t used size own lent))
+          → CutsDown k L size own lent l t used (cutFrom k t size own lent (suc n) used (recover k t used size own lent))
       from later (recovered w e m) is =
-          subst (λ (x : Recovery). CutsDown k L s size own lent l t used (cutFrom k t size own lent (suc n) used x)) (sym is)
-          (stays used h (recovered w e m) is (recovers k L s size own lent at t used h w e m is))
+          subst (λ (x : Recovery). CutsDown k L size own lent l t used (cutFrom k t size own lent (suc n) used x)) (sym is)
+          (stays used h (recovered w e m) is (nothing-lost used h w e m is))
       from later (refused i p) is =
-          subst (λ (x : Recovery). CutsDown k L s size own lent l t used (cutFrom k t size own lent (suc n) used x)) (sym is)
+          subst (λ (x : Recovery). CutsDown k L size own lent l t used (cutFrom k t size own lent (suc n) used x)) (sym is)
           (goes later i p is (asksForRows i) refl)
 
-  pub cuts-down : (used : ℕ) → HoldsFirst L s t used → CutsDown k L s size own lent l t used (cutDown k t size own lent used)
+  pub cuts-down : (used : ℕ) → HoldsFirst L s t used → CutsDown k L size own lent l t used (cutDown k t size own lent used)
   unfolding cutDown
   cuts-down used h = settles used used (omega arith) h
 

@@ -10,7 +10,7 @@ use lib.Dec.{eqb}
 use lib.ListN.{length, take}
 use Rattle.wal_position.specs.declared.WalPosition.{WalPosition}
 use Rattle.wal_reader.specs.Entries.{Entry, endOf}
-use Rattle.wal.specs.Walk.{Stop, Ending, stopped, walk}
+use Rattle.wal.specs.Walk.{Stop, END, Ending, stopped, walk}
 use Rattle.wal.specs.Answers.{walkedOf, walkAnswer}
 use Rattle.wal.specs.declared.Stop as code
 use Rattle.wal.specs.declared.Walked.the-variants.{Stopped as Walked·Stopped, Refused as Walked·Refused}
@@ -49,6 +49,15 @@ pub record Lists (k L : ℕ) (s t : List ℕ) (used : ℕ) : Type 0 where
   pub rest : List Entry
   pub lists : walk k t used .entries ≡ walk k s L .entries ++ rest
   pub behind : AllStartFrom L rest
+
+-- A recovery of t that is not refused, with E and the entries m.
+pub record Served (k L size own : ℕ) (lent : Lent) (l : List ReplayEntry) (t : List ℕ) (e : ℕ) (m : List ReplayEntry) : Type 0 where
+  -- it resumes at or past L
+  pub from : L ≤ e
+  -- what was recovered at L is recovered
+  pub begins : BeginsWith l m
+  -- E is such a length as L is, for the next crash: recovery with used E stops at E and gives the same
+  pub again : recover k t e size own lent ≡ recovered END e m
 
 -- ---- A cut
 
@@ -119,7 +128,7 @@ NothingLost L l (recovered w e m) = (L ≤ e) × BeginsWith l m
 NothingLost L l (refused n p) = (n ≡ 15) × (L ≤ p)
 
 -- "So the cut that the file layer makes loses nothing that was acknowledged, whichever pages a crash lost."
-pub record CutsDown (k L : ℕ) (s : List ℕ) (size own : ℕ) (lent : Lent) (l : List ReplayEntry) (t : List ℕ) (used : ℕ) (to : Settled) : Type 0 where
+pub record CutsDown (k L size own : ℕ) (lent : Lent) (l : List ReplayEntry) (t : List ℕ) (used : ℕ) (to : Settled) : Type 0 where
   -- it never comes below L
   pub from : L ≤ to .used
   pub by : to .used ≤ used
@@ -134,11 +143,10 @@ pub record CutsDown (k L : ℕ) (s : List ℕ) (size own : ℕ) (lent : Lent) (l
 -- ---- The calls
 
 -- the answer and the tables of a call of `recovery::recover` that is not refused, with E
-pub record Serves (L : ℕ) (l : List ReplayEntry) (used own e : ℕ) (before : Tables) (r : Recovered) (after : Tables) : Type 0 where
-  pub from : L ≤ e
+pub record CallServed (k L size own : ℕ) (lent : Lent) (l : List ReplayEntry) (t : List ℕ) (used e : ℕ) (before : Tables) (r : Recovered) (after : Tables) : Type 0 where
   pub word : Stop
   pub entries : List ReplayEntry
-  pub begins : BeginsWith l entries
+  pub served : Served k L size own lent l t e entries
   pub answers : Answers used own (recovered word e entries) before r after
 
 -- what the file layer sees: the answers of `wal::walk`, and of `recovery::recover` with tables of the size that recovery had at L
@@ -147,7 +155,8 @@ pub record Called (k L : ℕ) (s : List ℕ) (size own : ℕ) (lent : Lent) (l :
   pub walk-refused : (n : ℕ) (p : WalPosition) → walkAnswer k t used ≡ Walked·Refused n p → CutAt k L s t used (p .0)
   pub recover-stopped : (before : Tables) (r : Recovered) (after : Tables) → rowsLent before ≡ lent
       → RecoverAnswers k t used size own before r after
-      → (v : code.Stop) (e : WalPosition) (unread : ℕ) → r .walked ≡ Walked·Stopped v e unread → Serves L l used own (e .0) before r after
+      → (v : code.Stop) (e : WalPosition) (unread : ℕ) → r .walked ≡ Walked·Stopped v e unread 
+      → CallServed k L size own lent l t used (e .0) before r after
   pub recover-refused : (before : Tables) (r : Recovered) (after : Tables) → rowsLent before ≡ lent
       → RecoverAnswers k t used size own before r after
       → (n : ℕ) (p : WalPosition) → r .walked ≡ Walked·Refused n p → CutAt k L s t used (p .0)
@@ -157,12 +166,13 @@ pub record Called (k L : ℕ) (s : List ℕ) (size own : ℕ) (lent : Lent) (l :
 pub record Durable (k L : ℕ) (s : List ℕ) (size own : ℕ) (lent : Lent) (l : List ReplayEntry) (t : List ℕ) (used : ℕ) : Type 0 where
   -- "the walk lists first the entries up to L"
   pub lists : Lists k L s t used
-  -- a walk that stops resumes at or past L: no log that holds its first L bytes is taken for a shorter one
+  -- A walk that stops resumes at or past L. The file layer takes a log that resumes before L for damaged, and refuses it: that never happens
+  -- where the first L bytes are there.
   pub walk-stops : (w : Stop) (e : ℕ) → walk k t used .ending ≡ stopped w e → L ≤ e
   -- "a refusal of the walk .. has a start at or past L"
   pub walk-refused : (n p : ℕ) → walk k t used .ending ≡ Ending.refused n p → CutAt k L s t used p
   -- a recovery that is not refused gives what was recovered at L, and what stands behind it
-  pub recovers : (w : Stop) (e : ℕ) (m : List ReplayEntry) → recover k t used size own lent ≡ recovered w e m → (L ≤ e) × BeginsWith l m
+  pub recovers : (w : Stop) (e : ℕ) (m : List ReplayEntry) → recover k t used size own lent ≡ recovered w e m → Served k L size own lent l t e m
   -- "or of recovery .. has a start at or past L". With the tables of L this holds of 15 too; the file layer makes no cut then. A payload
   -- before L that is pending, so that 11 could refuse it, was pending at L, and decodes.
   pub recovery-refused : (n p : ℕ) → recover k t used size own lent ≡ refused n p → CutAt k L s t used p
@@ -170,7 +180,7 @@ pub record Durable (k L : ℕ) (s : List ℕ) (size own : ℕ) (lent : Lent) (l 
   pub calls : Called k L s size own lent l t used
   -- the cuts, one after the other, and the equation of their loop without its bound
   pub cut-step : cutDown k t size own lent used ≡ cutStep k t size own lent used (recover k t used size own lent)
-  pub cuts-down : CutsDown k L s size own lent l t used (cutDown k t size own lent used)
+  pub cuts-down : CutsDown k L size own lent l t used (cutDown k t size own lent used)
 
 -- "Let a log be given with a length L at which recovery is not refused (L an entry's end or 0)": recovery of s with used L stops with E = L.
 -- Then 1, 2 and 18 do not refuse it, so that k is 6 to 28 and L is within s and 2^40. Committee, own authority and tables are "the
@@ -180,3 +190,18 @@ Durability =
     (k L : ℕ) (s : List ℕ) (size own : ℕ) (lent : Lent) (word : Stop) (l : List ReplayEntry)
     → recover k s L size own lent ≡ recovered word L l
     → (t : List ℕ) (used : ℕ) → HoldsFirst L s t used → Durable k L s size own lent l t used
+
+-- ---- Larger tables
+
+-- at least as many rows in each table
+pub record AtLeast (lent more : Lent) : Type 0 where
+  pub pending : lent .pending ≤ more .pending
+  pub unprocessed : lent .unprocessed ≤ more .unprocessed
+  pub committed : lent .committed ≤ more .committed
+  pub index : lent .index ≤ more .index
+
+-- A recovery that is not refused gives the same with larger tables. So after 15, which asks for them, `Durability` holds of the larger ones.
+abbrev pub LargerTables : Type 0
+LargerTables =
+    (k : ℕ) (s : List ℕ) (used size own : ℕ) (lent more : Lent) (word : Stop) (e : ℕ) (l : List ReplayEntry) → AtLeast lent more
+    → recover k s used size own lent ≡ recovered word e l → recover k s used size own more ≡ recovered word e l

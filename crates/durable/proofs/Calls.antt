@@ -15,7 +15,7 @@ use Rattle.recovered.specs.declared.Recovered.{Recovered}
 use Rattle.recovered.specs.Answers.{refusedAnswer}
 use Rattle.replay_log.specs.Answers.{recoveredOf, Tables, rowsLent, Answers, RecoverAnswers}
 use Rattle.durable.specs.Durable.{HoldsFirst, CutAt, CallServed, Called}
-use Rattle.durable.proofs.Recoveries.{Accepted}
+use Rattle.durable.proofs.Recoveries.{NotRefused}
 use Rattle.durable.proofs.Images.{walk-stops, walk-refused, recovers, recovery-refused}
 
 -- ---- What an answer says of its definition
@@ -54,7 +54,7 @@ answer-refused used own (recovered w e l) h = absurd (let z : _≡_ {A = ℕ} 0 
 
 -- ---- The answers
 
-module _ (k L : ℕ) (s : List ℕ) (size own : ℕ) (lent : Lent) {word : Stop} {l : List ReplayEntry} (at : Accepted k s L size own lent word L l)
+module _ (k L : ℕ) (s : List ℕ) (size own : ℕ) (lent : Lent) {word : Stop} {l : List ReplayEntry} (at : NotRefused k s L size own lent word L l)
     (t : List ℕ) (used : ℕ) (h : HoldsFirst L s t used) where
   -- a call of `recovery::recover`
   module _ (before : Tables) (r : Recovered) (after : Tables) (same : rowsLent before ≡ lent) (says : RecoverAnswers k t used size own before r after) where

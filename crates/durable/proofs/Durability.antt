@@ -1,13 +1,13 @@
 -- The theorem: nothing that was acknowledged is lost. Assumes nothing.
 use Rattle.durable.specs.Durable.{Durability}
-use Rattle.durable.proofs.Recoveries.{accepted}
+use Rattle.durable.proofs.Recoveries.{not-refused}
 use Rattle.durable.proofs.Images.{walk-lists, walk-stops, walk-refused, recovers, recovery-refused}
-use Rattle.durable.proofs.Settling.{cut-step, cuts-down}
+use Rattle.durable.proofs.Loop.{loop, cuts-down}
 use Rattle.durable.proofs.Calls.{called}
 
 pub durability : Durability
 durability k L s size own lent word l given t used h =
-    let at = accepted k s L size own lent given in
+    let at = not-refused k s L size own lent given in
     record {
       lists = walk-lists k L s size own lent at t used h;
       walk-stops = walk-stops k L s size own lent at t used h;
@@ -15,6 +15,6 @@ durability k L s size own lent word l given t used h =
       recovers = recovers k L s size own lent at t used h;
       recovery-refused = recovery-refused k L s size own lent at t used h;
       calls = called k L s size own lent at t used h;
-      cut-step = cut-step k L s size own lent at t used h;
+      loop = loop k L s size own lent at t used h;
       cuts-down = cuts-down k L s size own lent at t used h;
     }

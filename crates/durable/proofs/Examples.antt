@@ -23,7 +23,7 @@ use Rattle.rows.specs.Rows.{compared, choose}
 use Rattle.replay.specs.Items.{classify, blockIn}
 use Rattle.replay.specs.Rules.{lastOf, gather, keepsPending, allKeepPending, canBePending, pending, stateIn, stateOf, afterState, blocksIn, blocks, unprocessed, sortKey, insert, setOf, commitsIn, commits, committed, latest, index}
 use Rattle.replay.specs.Recovery.{Lent, Recovery, refused, recovered, hasBlockIn, blockCheck, rowsCheck, entryCheck, scan, badPayload, decoded, replayed, recover}
-use Rattle.durable.specs.Durable.{asksForRows, Settled, cutFrom, cutDown}
+use Rattle.durable.specs.Durable.{asksForRows, AfterCuts, oneCut, cutFrom, cutDown}
 
 eightRows : Lent
 eightRows = record { pending = 8; unprocessed = 8; committed = 8; index = 8 }
@@ -38,10 +38,10 @@ recovery : ℕ → List ℕ → ℕ → List ℕ
 recovery k image used = told (recover k image used 4 0 eightRows)
 
 -- the used at which the cuts end, and what recovery gives there
-settled : Lent → ℕ → List ℕ → ℕ → List ℕ
-settled lent k image used = shown (cutDown k image 4 0 lent used)
+afterCuts : Lent → ℕ → List ℕ → ℕ → List ℕ
+afterCuts lent k image used = shown (cutDown k image 4 0 lent used)
   where
-    shown : Settled → List ℕ
+    shown : AfterCuts → List ℕ
     shown x = x .used ∷ told (x .answer)
 
 -- ---- A payload that an own block dropped, pending again
@@ -70,8 +70,8 @@ ownBlockLog =
 -- With all 272 bytes 5 refuses the header at 256. Cut there, 11 refuses the payload at 39, which the own block does not drop. That cut takes
 -- the own block away, and the payload at 16 is pending again: 11 refuses it too. What is left is the state.
 three-cuts : (map (recovery 8 ownBlockLog) (272 ∷ 256 ∷ 39 ∷ 16 ∷ []) ≡ (5 ∷ 256 ∷ []) ∷ (11 ∷ 39 ∷ []) ∷ (11 ∷ 16 ∷ []) ∷ (0 ∷ 16 ∷ 1 ∷ []) ∷ [])
-    × (settled eightRows 8 ownBlockLog 272 ≡ 16 ∷ 0 ∷ 16 ∷ 1 ∷ [])
-unfolding recovery settled told eightRows ownBlockLog pick bytesAt zeros le ofLe then raw number many joined answer crc.digits crc.number crc.plus crc.times crc.power crc.generator crc.reduce crc.remainder crc.messageBits crc.complement crc.crc32 entryBytes checksumAt lengthAt tagAt payloadAt bool boolBytes vec vecBytes byteString byteStringBytes exactly digest digestBytes signature signatureBytes reference referenceBytes statement block blockBytes payload ownBlock ownBlockBytes commitData commit committeeCheck regionStart nextRegion logCheck unless endOf announced lookAt move listing moveAt follow walkAt compared choose classify blockIn lastOf gather keepsPending allKeepPending canBePending pending stateIn stateOf afterState blocksIn blocks unprocessed sortKey insert setOf commitsIn commits committed latest index hasBlockIn blockCheck rowsCheck entryCheck scan badPayload decoded replayed recover asksForRows cutFrom cutDown
+    × (afterCuts eightRows 8 ownBlockLog 272 ≡ 16 ∷ 0 ∷ 16 ∷ 1 ∷ [])
+unfolding recovery afterCuts told eightRows ownBlockLog pick bytesAt zeros le ofLe then raw number many joined answer crc.digits crc.number crc.plus crc.times crc.power crc.generator crc.reduce crc.remainder crc.messageBits crc.complement crc.crc32 entryBytes checksumAt lengthAt tagAt payloadAt bool boolBytes vec vecBytes byteString byteStringBytes exactly digest digestBytes signature signatureBytes reference referenceBytes statement block blockBytes payload ownBlock ownBlockBytes commitData commit committeeCheck regionStart nextRegion logCheck unless endOf announced lookAt move listing moveAt follow walkAt compared choose classify blockIn lastOf gather keepsPending allKeepPending canBePending pending stateIn stateOf afterState blocksIn blocks unprocessed sortKey insert setOf commitsIn commits committed latest index hasBlockIn blockCheck rowsCheck entryCheck scan badPayload decoded replayed recover asksForRows oneCut cutFrom cutDown
 three-cuts = (refl, refl)
 
 -- ---- Small logs, with k = 6
@@ -86,17 +86,17 @@ noPendingRow = record { pending = 0; unprocessed = 8; committed = 8; index = 8 }
 smallCases : List (List ℕ)
 smallCases =
     -- L = 0, and no entry: 5 at 0
-    settled eightRows 6 (1 ∷ zeros 15) 16
+    afterCuts eightRows 6 (1 ∷ zeros 15) 16
     -- a payload of 7 bytes at 16, and behind it an own block of 7: 10 at 39, then 11 at 16
-    ∷ settled eightRows 6 (behindState (entryBytes 2 (zeros 7) ++ entryBytes 3 (zeros 7))) 62
+    ∷ afterCuts eightRows 6 (behindState (entryBytes 2 (zeros 7) ++ entryBytes 3 (zeros 7))) 62
     -- an own block whose bytes were lost, so that zeros stand in their place up to the region's end: nothing is cut
-    ∷ settled eightRows 6 (behindState (zeros 48)) 64
+    ∷ afterCuts eightRows 6 (behindState (zeros 48)) 64
     -- used within the padding before an entry at 64
-    ∷ settled eightRows 6 (behindState (zeros 48 ++ entryBytes 4 [])) 40
+    ∷ afterCuts eightRows 6 (behindState (zeros 48 ++ entryBytes 4 [])) 40
     -- zeros are skipped up to 64, where the length is 15: 6 at 64, and with that used E is still 16
-    ∷ settled eightRows 6 (behindState (zeros 48 ++ zeros 8 ++ 15 ∷ zeros 7)) 80
+    ∷ afterCuts eightRows 6 (behindState (zeros 48 ++ zeros 8 ++ 15 ∷ zeros 7)) 80
     -- a payload at 16 that decodes, and no row for it: 15, and no cut
-    ∷ settled noPendingRow 6 (behindState (entryBytes 2 (zeros 8))) 40
+    ∷ afterCuts noPendingRow 6 (behindState (entryBytes 2 (zeros 8))) 40
     ∷ []
 
 small : smallCases
@@ -107,5 +107,5 @@ small : smallCases
     ∷ (64 ∷ 0 ∷ 16 ∷ 1 ∷ [])
     ∷ (40 ∷ 15 ∷ 16 ∷ [])
     ∷ []
-unfolding settled told eightRows noPendingRow behindState smallCases pick bytesAt zeros le ofLe then raw number many joined answer crc.digits crc.number crc.plus crc.times crc.power crc.generator crc.reduce crc.remainder crc.messageBits crc.complement crc.crc32 entryBytes checksumAt lengthAt tagAt payloadAt bool boolBytes vec vecBytes byteString byteStringBytes exactly digest digestBytes signature signatureBytes reference referenceBytes statement block blockBytes payload ownBlock ownBlockBytes commitData commit committeeCheck regionStart nextRegion logCheck unless endOf announced lookAt move listing moveAt follow walkAt compared choose classify blockIn lastOf gather keepsPending allKeepPending canBePending pending stateIn stateOf afterState blocksIn blocks unprocessed sortKey insert setOf commitsIn commits committed latest index hasBlockIn blockCheck rowsCheck entryCheck scan badPayload decoded replayed recover asksForRows cutFrom cutDown
+unfolding afterCuts told eightRows noPendingRow behindState smallCases pick bytesAt zeros le ofLe then raw number many joined answer crc.digits crc.number crc.plus crc.times crc.power crc.generator crc.reduce crc.remainder crc.messageBits crc.complement crc.crc32 entryBytes checksumAt lengthAt tagAt payloadAt bool boolBytes vec vecBytes byteString byteStringBytes exactly digest digestBytes signature signatureBytes reference referenceBytes statement block blockBytes payload ownBlock ownBlockBytes commitData commit committeeCheck regionStart nextRegion logCheck unless endOf announced lookAt move listing moveAt follow walkAt compared choose classify blockIn lastOf gather keepsPending allKeepPending canBePending pending stateIn stateOf afterState blocksIn blocks unprocessed sortKey insert setOf commitsIn commits committed latest index hasBlockIn blockCheck rowsCheck entryCheck scan badPayload decoded replayed recover asksForRows oneCut cutFrom cutDown
 small = refl

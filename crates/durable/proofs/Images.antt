@@ -24,11 +24,11 @@ use Rattle.cut.proofs.Recovering.{walk-is, recover-is}
 use Rattle.durable.specs.Durable.{HoldsFirst, AllEndBy, Lists, Served, CutAt}
 use Rattle.durable.proofs.Cutting.{end-earlier, both-end, Place, refusal-place, Within, from-within, Stops, stops-at}
 use Rattle.durable.proofs.Scans.{scan-on, concluded-place, scan-begins}
-use Rattle.durable.proofs.Recoveries.{Accepted, accepted, resumes, recovers-to-end}
+use Rattle.durable.proofs.Recoveries.{NotRefused, not-refused, resumes, recovers-to-end}
 
 -- ---- At L
 
-module _ (k L : ℕ) (s : List ℕ) (size own : ℕ) (lent : Lent) {word : Stop} {l : List ReplayEntry} (at : Accepted k s L size own lent word L l) where
+module _ (k L : ℕ) (s : List ℕ) (size own : ℕ) (lent : Lent) {word : Stop} {l : List ReplayEntry} (at : NotRefused k s L size own lent word L l) where
   -- the entries up to L
   abbrev acknowledged : List Entry
   acknowledged = walkAt k s L 0 0 .entries
@@ -90,7 +90,7 @@ module _ (k L : ℕ) (s : List ℕ) (size own : ℕ) (lent : Lent) {word : Stop}
     pub recovers : (w : Stop) (e : ℕ) (m : List ReplayEntry) → recover k t used size own lent ≡ recovered w e m → Served k L size own lent l t e m
     unfolding onwards
     recovers w e m is =
-        let there = accepted k t used size own lent is in
+        let there = not-refused k t used size own lent is in
         let same : walkAt k t used 0 0 ≡ onwards acknowledged rest = sym (walk-is k t used sound) ∙ walk-on in
         let scans : scan size own lent l (rest .entries) ≡ scanned m =
         sym (scan-on size own lent [] acknowledged (rest .entries) (at .read .scans))

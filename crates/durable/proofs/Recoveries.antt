@@ -24,16 +24,16 @@ use Rattle.durable.specs.Durable.{AtLeast, LargerTables}
 use Rattle.durable.proofs.Scans.{scan-passes, scan-refuses, accepted-decodes}
 
 -- a recovery that is not refused: it passes 1, 2 and 18, and is the replay of the walk
-pub record Accepted (k : ℕ) (s : List ℕ) (used size own : ℕ) (lent : Lent) (word : Stop) (e : ℕ) (l : List ReplayEntry) : Type 0 where
+pub record NotRefused (k : ℕ) (s : List ℕ) (used size own : ℕ) (lent : Lent) (word : Stop) (e : ℕ) (l : List ReplayEntry) : Type 0 where
   pub sound : Sound k used (length s)
   pub committee : committeeCheck size own ≡ 0
   pub read : Replayed size own lent (walkAt k s used 0 0) word e l
   pub decodes : badPayload (pending l) ≡ none
 
-pub accepted : (k : ℕ) (s : List ℕ) (used size own : ℕ) (lent : Lent) {word : Stop} {e : ℕ} {l : List ReplayEntry}
-    → recover k s used size own lent ≡ recovered word e l → Accepted k s used size own lent word e l
+pub not-refused : (k : ℕ) (s : List ℕ) (used size own : ℕ) (lent : Lent) {word : Stop} {e : ℕ} {l : List ReplayEntry}
+    → recover k s used size own lent ≡ recovered word e l → NotRefused k s used size own lent word e l
 unfolding recover
-accepted k s used size own lent h =
+not-refused k s used size own lent h =
     let w : Walk = walkAt k s used 0 0 in
     let log = unless-recovered (logCheck k used (length s)) (unless (committeeCheck size own) (λ n. refused n 0) (replayed size own lent w)) h in
     let committee = unless-recovered (committeeCheck size own) (replayed size own lent w) (log .1) in
@@ -64,7 +64,7 @@ module _ (size own : ℕ) (lent : Lent) {word : Stop} {e : ℕ} {l : List Replay
 
 -- ---- With used E
 
-module _ (k : ℕ) (s : List ℕ) (used size own : ℕ) (lent : Lent) {word : Stop} {e : ℕ} {l : List ReplayEntry} (at : Accepted k s used size own lent word e l) where
+module _ (k : ℕ) (s : List ℕ) (used size own : ℕ) (lent : Lent) {word : Stop} {e : ℕ} {l : List ReplayEntry} (at : NotRefused k s used size own lent word e l) where
   abbrev listed : List Entry
   listed = walkAt k s used 0 0 .entries
 
@@ -95,6 +95,9 @@ module _ (k : ℕ) (s : List ℕ) (used size own : ℕ) (lent : Lent) {word : St
 
 -- ---- With larger tables
 
+at-least-trans : (a b c : Lent) → AtLeast a b → AtLeast b c → AtLeast a c
+at-least-trans a b c h l = omega arith
+
 module _ (size own : ℕ) (lent more : Lent) (larger : AtLeast lent more) where
   -- an entry that passes
   module _ (before : List ReplayEntry) (a : Entry) {i : Item} (passes : entryCheck size own lent before a ≡ item i) where
@@ -105,28 +108,38 @@ module _ (size own : ℕ) (lent more : Lent) (larger : AtLeast lent more) where
         omega arith
 
     module _ {j : Item} (is : classify a ≡ item j) (free : blockCheck size own (blocks before) (blockIn j) ≡ 0) where
-      abbrev with : List ReplayEntry
-      with = before ++ (record { entry = a; item = j } ∷ [])
+      abbrev reads : List ReplayEntry
+      reads = before ++ (record { entry = a; item = j } ∷ [])
 
-      fits : (n m : ℕ) → (m < n → rowsCheck lent with ≡ 15) → n ≤ m
+      -- the rows that it needs
+      abbrev needed : Lent
+      needed =
+          record {
+            pending = length (pending reads);
+            unprocessed = length (unprocessed reads);
+            committed = length (committed reads);
+            index = length (index reads);
+          }
+
+      fits : (n m : ℕ) → (m < n → rowsCheck lent reads ≡ 15) → n ≤ m
       fits n m full = ⊎-elim (λ c. c .1) (λ c. absurd (never (check-full size own lent before a is free (full (c .1))))) (leb-cases n m)
 
-      rows-larger : rowsCheck more with ≡ 0
-      rows-larger =
-          let p = fits (length (pending with)) (lent .pending) (pending-full lent with) in
-          let u = fits (length (unprocessed with)) (lent .unprocessed) (unprocessed-full lent with) in
-          let c = fits (length (committed with)) (lent .committed) (committed-full lent with) in
-          let n = fits (length (index with)) (lent .index) (index-full lent with) in
-          rows-pass more with (omega (arith, larger .pending)) (omega (arith, larger .unprocessed)) (omega (arith, larger .committed)) (omega (arith, larger .index))
+      lent-enough : AtLeast needed lent
+      lent-enough =
+          record {
+            pending = fits (needed .pending) (lent .pending) (pending-full lent reads);
+            unprocessed = fits (needed .unprocessed) (lent .unprocessed) (unprocessed-full lent reads);
+            committed = fits (needed .committed) (lent .committed) (committed-full lent reads);
+            index = fits (needed .index) (lent .index) (index-full lent reads);
+          }
+
+      enough-passes : (m : Lent) → AtLeast needed m → entryCheck size own m before a ≡ item j
+      enough-passes m enough =
+          check-passes size own m before a is free (rows-pass m reads (enough .pending) (enough .unprocessed) (enough .committed) (enough .index))
 
       passes-larger : entryCheck size own more before a ≡ item i
       passes-larger =
-          let rows : rowsCheck lent with ≡ 0 =
-          rows-pass lent with (fits (length (pending with)) (lent .pending) (pending-full lent with))
-          (fits (length (unprocessed with)) (lent .unprocessed) (unprocessed-full lent with))
-          (fits (length (committed with)) (lent .committed) (committed-full lent with))
-          (fits (length (index with)) (lent .index) (index-full lent with)) in
-          check-passes size own more before a is free rows-larger ∙ sym (check-passes size own lent before a is free rows) ∙ passes
+          enough-passes more (at-least-trans needed lent more lent-enough larger) ∙ sym (enough-passes lent lent-enough) ∙ passes
 
     entry-larger : entryCheck size own more before a ≡ item i
     entry-larger = from (classify a) refl
@@ -158,7 +171,7 @@ module _ (size own : ℕ) (lent more : Lent) (larger : AtLeast lent more) where
 
 pub larger-tables : LargerTables
 larger-tables k s used size own lent more word e l larger h =
-    let at = accepted k s used size own lent h in
+    let at = not-refused k s used size own lent h in
     recovered-so size own more (at .decodes) k s used (at .sound) (at .committee)
     (record {
       scans = scan-larger size own lent more larger [] (walkAt k s used 0 0 .entries) (at .read .scans);

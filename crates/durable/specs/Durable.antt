@@ -95,32 +95,26 @@ pub record CutAt (k L : ℕ) (s t : List ℕ) (used p : ℕ) : Type 0 where
 unfoldable pub asksForRows : ℕ → Bool
 asksForRows n = eqb n 15
 
--- the used at which recovery is not refused, or with 15, and what it gives there
-pub record Settled : Type 0 where
+-- the used at which the cuts end, and what recovery gives there
+pub record AfterCuts : Type 0 where
   pub used : ℕ
   pub answer : Recovery
 
+-- One time around the loop, by what recovery gave with this used: it ends where recovery is not refused, or with 15; at any other refusal it
+-- goes on with the log cut at the start that the refusal names.
+unfoldable pub oneCut : ℕ → (ℕ → AfterCuts) → Recovery → AfterCuts
+oneCut used goOn (recovered w e l) = record { used = used; answer = recovered w e l }
+oneCut used goOn (refused n p) = elim (asksForRows n) [ true ↦ record { used = used; answer = refused n p } | false ↦ goOn p ]
+
 module _ (k : ℕ) (t : List ℕ) (size own : ℕ) (lent : Lent) where
-  -- what recovery gave with this used; if that was a refusal other than 15, the log is cut at its start, at most n times
-  unfoldable pub cutFrom : ℕ → ℕ → Recovery → Settled
-  cutFrom zero used x = record { used = used; answer = x }
-  cutFrom (suc n) used (recovered w e l) = record { used = used; answer = recovered w e l }
-  cutFrom (suc n) used (refused m p) = elim (asksForRows m) [
-    | true ↦ record { used = used; answer = refused m p }
-    | false ↦ cutFrom n p (recover k t p size own lent)
-  ]
+  -- at most n cuts
+  unfoldable pub cutFrom : ℕ → ℕ → AfterCuts
+  cutFrom zero used = record { used = used; answer = recover k t used size own lent }
+  cutFrom (suc n) used = oneCut used (cutFrom n) (recover k t used size own lent)
 
-  -- A cut leaves fewer bytes, so that used bounds their number: `Durable .cut-step` has the equation without the bound.
-  unfoldable pub cutDown : ℕ → Settled
-  cutDown used = cutFrom used used (recover k t used size own lent)
-
-  -- one time around
-  unfoldable pub cutStep : ℕ → Recovery → Settled
-  cutStep used (recovered w e l) = record { used = used; answer = recovered w e l }
-  cutStep used (refused m p) = elim (asksForRows m) [
-    | true ↦ record { used = used; answer = refused m p }
-    | false ↦ cutDown p
-  ]
+  -- A cut leaves fewer bytes, so that used bounds their number. `Durable .loop` is the equation without the bound.
+  unfoldable pub cutDown : ℕ → AfterCuts
+  cutDown used = cutFrom used used
 
 -- what was recovered at L is recovered; or 15 is given, for an entry from L on
 abbrev pub NothingLost : ℕ → List ReplayEntry → Recovery → Type 0
@@ -128,7 +122,7 @@ NothingLost L l (recovered w e m) = (L ≤ e) × BeginsWith l m
 NothingLost L l (refused n p) = (n ≡ 15) × (L ≤ p)
 
 -- "So the cut that the file layer makes loses nothing that was acknowledged, whichever pages a crash lost."
-pub record CutsDown (k L size own : ℕ) (lent : Lent) (l : List ReplayEntry) (t : List ℕ) (used : ℕ) (to : Settled) : Type 0 where
+pub record CutsDown (k L size own : ℕ) (lent : Lent) (l : List ReplayEntry) (t : List ℕ) (used : ℕ) (to : AfterCuts) : Type 0 where
   -- it never comes below L
   pub from : L ≤ to .used
   pub by : to .used ≤ used
@@ -155,7 +149,7 @@ pub record Called (k L : ℕ) (s : List ℕ) (size own : ℕ) (lent : Lent) (l :
   pub walk-refused : (n : ℕ) (p : WalPosition) → walkAnswer k t used ≡ Walked·Refused n p → CutAt k L s t used (p .0)
   pub recover-stopped : (before : Tables) (r : Recovered) (after : Tables) → rowsLent before ≡ lent
       → RecoverAnswers k t used size own before r after
-      → (v : code.Stop) (e : WalPosition) (unread : ℕ) → r .walked ≡ Walked·Stopped v e unread 
+      → (v : code.Stop) (e : WalPosition) (unread : ℕ) → r .walked ≡ Walked·Stopped v e unread
       → CallServed k L size own lent l t used (e .0) before r after
   pub recover-refused : (before : Tables) (r : Recovered) (after : Tables) → rowsLent before ≡ lent
       → RecoverAnswers k t used size own before r after
@@ -178,8 +172,8 @@ pub record Durable (k L : ℕ) (s : List ℕ) (size own : ℕ) (lent : Lent) (l 
   pub recovery-refused : (n p : ℕ) → recover k t used size own lent ≡ refused n p → CutAt k L s t used p
   -- the same, as the calls answer
   pub calls : Called k L s size own lent l t used
-  -- the cuts, one after the other, and the equation of their loop without its bound
-  pub cut-step : cutDown k t size own lent used ≡ cutStep k t size own lent used (recover k t used size own lent)
+  -- the cuts, one after the other, and where they end
+  pub loop : cutDown k t size own lent used ≡ oneCut used (cutDown k t size own lent) (recover k t used size own lent)
   pub cuts-down : CutsDown k L size own lent l t used (cutDown k t size own lent used)
 
 -- "Let a log be given with a length L at which recovery is not refused (L an entry's end or 0)": recovery of s with used L stops with E = L.

@@ -5,7 +5,7 @@ use mathlib.Core.List.{List, [], _∷_, _++_}
 use mathlib.Core.Logic.{_⊎_, inl, inr}
 use Prim.Native.Nat.{ℕ, zero, suc, _+_, _≤_, _<_}
 use native.Mathlib.Omega.{arith}
-use lib.Dec.{eqb}
+use lib.Dec.{leb, eqb}
 use lib.ListN.{length}
 use Rattle.laws.specs.Pick.{pick}
 use Rattle.laws.proofs.Tests.{leb-cases}
@@ -66,7 +66,7 @@ module _ (k : ℕ) (t : List ℕ) (used e p : ℕ) where
   unfolding moveAt
   refuse-at {n} {q} h = (refuses-there (lookAt k t used p) h, before (leb-cases used p))
     where
-      before : ((lib.Dec.leb used p ≡ true) × (used ≤ p)) ⊎ ((lib.Dec.leb used p ≡ false) × (p < used)) → p < used
+      before : ((leb used p ≡ true) × (used ≤ p)) ⊎ ((leb used p ≡ false) × (p < used)) → p < used
       before (inl c) =
           let stops : moveAt k t used e p ≡ stop (pick (eqb e used) END ZEROS) = past-stops (c .1) in
           let z : _≡_ {A = ℕ} 0 1 = cc in
@@ -154,6 +154,9 @@ refusal-place [] n p = refl
 refusal-place (a ∷ es) n p = inr (refusal-place es n p)
 
 module _ (k : ℕ) (low : 6 ≤ k) (t : List ℕ) (used : ℕ) (image : used ≤ length t) where
+  by-step : (e : ℕ) {x : Step} → stepFrom k t used e ≡ x → walkAt k t used e e ≡ afterStep k t used e x
+  by-step e is = walk-step k t used low e ∙ ap (afterStep k t used e) is
+
   -- what the walk from e lists starts at or past e, and ends by used; where it stops, it does so at or past e
   pub record Within (e : ℕ) (w : Walk) : Type 0 where
     pub starts : AllStartFrom e (w .entries)
@@ -166,17 +169,22 @@ module _ (k : ℕ) (low : 6 ≤ k) (t : List ℕ) (used : ℕ) (image : used ≤
   walk-within (suc n) e h l =
       from (λ a ahead. walk-within n (endOf a) (ahead .inside) (omega (arith, ahead .ahead))) (stepFrom k t used e) refl
     where
-      from : ((a : Entry) → Ahead used e a → Within (endOf a) (walkAt k t used (endOf a) (endOf a)))
-          → (x : Step) → stepFrom k t used e ≡ x → Within e (walkAt k t used e e)
-      from later x is = subst (Within e) (sym (walk-step k t used low e ∙ ap (afterStep k t used e) is)) (by later x is)
+      Later : Type 0
+      Later = (a : Entry) → Ahead used e a → Within (endOf a) (walkAt k t used (endOf a) (endOf a))
+
+      from : Later → (x : Step) → stepFrom k t used e ≡ x → Within e (walkAt k t used e e)
+      from later x is = subst (Within e) (sym (by-step e is)) (by later x is)
         where
-          by : ((a : Entry) → Ahead used e a → Within (endOf a) (walkAt k t used (endOf a) (endOf a)))
+          by : Later
               → (x : Step) → stepFrom k t used e ≡ x → Within e (afterStep k t used e x)
           by later (listed a) is =
               let ahead : Ahead used e a = step-ahead k t used image e a is in
               let rest = later a ahead in
               record {
-                starts = (ahead .from, start-later (walkAt k t used (endOf a) (endOf a) .entries) (omega (arith, ahead .ahead)) (rest .starts));
+                starts = (
+                  ahead .from,
+                  start-later (walkAt k t used (endOf a) (endOf a) .entries) (omega (arith, ahead .ahead)) (rest .starts),
+                );
                 ends = (ahead .inside, rest .ends);
                 stops = λ v f is. let there = rest .stops v f is in (omega (arith, ahead .ahead), there .1);
               }
@@ -219,7 +227,7 @@ module _ (k : ℕ) (low : 6 ≤ k) (t : List ℕ) (used : ℕ) (image : used ≤
       by (walk.Step.refused m q) is = tt
 
       from : (x : Step) → stepFrom k t used e ≡ x → AllStartFrom p (walkAt k t used e e .entries)
-      from x is = subst (λ (w : Walk). AllStartFrom p (w .entries)) (sym (walk-step k t used low e ∙ ap (afterStep k t used e) is)) (by x is)
+      from x is = subst (λ (w : Walk). AllStartFrom p (w .entries)) (sym (by-step e is)) (by x is)
 
   stops-here : (e p : ℕ) → e ≤ used → Reaches k t used e p → p < used → Stops e p
   stops-here e p h reaches ahead =
@@ -250,7 +258,7 @@ module _ (k : ℕ) (low : 6 ≤ k) (t : List ℕ) (used : ℕ) (image : used ≤
         word = later .word;
         end = later .end;
         first =
-            ap (λ (w : Walk). w .entries) (walk-step k t used low e ∙ ap (afterStep k t used e) step)
+            ap (λ (w : Walk). w .entries) (by-step e step)
             ∙ ap (λ (es : List Entry). a ∷ es) (later .first);
         walks =
             walk-step k t p low e
@@ -262,13 +270,20 @@ module _ (k : ℕ) (low : 6 ≤ k) (t : List ℕ) (used : ℕ) (image : used ≤
         by = later .by;
       }
 
-  place-stops : (n e : ℕ) → e ≤ used → used < n + e → (p : ℕ) → Place p (walkAt k t used e e .entries) (walkAt k t used e e .ending) → Stops e p
+  -- a place of the walk from e
+  abbrev PlaceFrom : ℕ → ℕ → Type 0
+  PlaceFrom e p = Place p (walkAt k t used e e .entries) (walkAt k t used e e .ending)
+
+  place-stops : (n e : ℕ) → e ≤ used → used < n + e → (p : ℕ) → PlaceFrom e p → Stops e p
   unfolding afterStep listing
   place-stops zero e h l p place = absurd (omega arith)
   place-stops (suc n) e h l p place =
       from (λ a ahead there. place-stops n (endOf a) (ahead .inside) (omega (arith, ahead .ahead)) p there) (stepFrom k t used e) refl
     where
-      by : ((a : Entry) → Ahead used e a → Place p (walkAt k t used (endOf a) (endOf a) .entries) (walkAt k t used (endOf a) (endOf a) .ending) → Stops (endOf a) p)
+      Later : Type 0
+      Later = (a : Entry) → Ahead used e a → PlaceFrom (endOf a) p → Stops (endOf a) p
+
+      by : Later
           → (x : Step) → stepFrom k t used e ≡ x → Place p (afterStep k t used e x .entries) (afterStep k t used e x .ending) → Stops e p
       by later (listed a) is (inl start) =
           let reach = reach-listed k t used e is in
@@ -279,11 +294,10 @@ module _ (k : ℕ) (low : 6 ≤ k) (t : List ℕ) (used : ℕ) (image : used ≤
           let reach = reach-refused k t used e is in
           stops-here e p h (subst (Reaches k t used e) there (reach .0)) (omega (arith, reach .1))
 
-      from : ((a : Entry) → Ahead used e a → Place p (walkAt k t used (endOf a) (endOf a) .entries) (walkAt k t used (endOf a) (endOf a) .ending) → Stops (endOf a) p)
-          → (x : Step) → stepFrom k t used e ≡ x → Stops e p
+      from : Later → (x : Step) → stepFrom k t used e ≡ x → Stops e p
       from later x is =
-          by later x is (subst (λ (w : Walk). Place p (w .entries) (w .ending)) (walk-step k t used low e ∙ ap (afterStep k t used e) is) place)
+          by later x is (subst (λ (w : Walk). Place p (w .entries) (w .ending)) (by-step e is) place)
 
   -- at a place of the walk the log can be cut
-  pub stops-at : (e p : ℕ) → e ≤ used → Place p (walkAt k t used e e .entries) (walkAt k t used e e .ending) → Stops e p
+  pub stops-at : (e p : ℕ) → e ≤ used → PlaceFrom e p → Stops e p
   stops-at e p h place = place-stops (suc used) e h (omega arith) p place

@@ -1,24 +1,21 @@
--- An image that holds the first L bytes of a log with which recovery, at L, was not refused: its walk, its recovery, and a cut. Assumes nothing.
-use mathlib.Core.Path.{_≡_, refl, sym, ap, ap₂, _∙_, subst}
-use mathlib.Core.List.{List, [], _∷_, _++_, append-assoc}
-use mathlib.Core.Option.{none}
-use Prim.Native.Nat.{ℕ, _≤_, _<_, _^_}
+-- An image that holds the first L bytes of a log with which recovery at L was not refused: its walk, its recovery, and a cut. Assumes
+-- nothing.
+use mathlib.Core.Path.{_≡_, sym, ap, _∙_, subst}
+use mathlib.Core.List.{List, [], _++_, append-assoc}
+use Prim.Native.Nat.{ℕ, _≤_}
 use native.Mathlib.Omega.{arith}
 use lib.ListN.{length}
-use Rattle.wal_position.specs.Checks.{logCheck, unless}
-use Rattle.wal_position.proofs.Checks.{Sound, passed-sound, unless-passed}
+use Rattle.wal_position.specs.Checks.{unless}
+use Rattle.wal_position.proofs.Checks.{Sound, unless-passed}
 use Rattle.wal_reader.specs.Entries.{Entry}
-use Rattle.wal.specs.Walk as walks
 use Rattle.wal.specs.Walk.{Stop, Walk, Ending, stopped, walkAt, walk}
 use Rattle.wal.specs.Answers.{walkedOf}
-use Rattle.wal.proofs.Prefixes.{onwards, Resumes, walk-resumes}
+use Rattle.wal.proofs.Prefixes.{onwards}
 use Rattle.committee.specs.Committee.{committeeCheck}
 use Rattle.replay.specs.Items.{ReplayEntry}
-use Rattle.replay.specs.Rules.{pending}
-use Rattle.replay.specs.Recovery.{Lent, Recovery, refused, recovered, scan, scanned, Scanned, badPayload, replayed, recover}
+use Rattle.replay.specs.Recovery.{Lent, Recovery, refused, recovered, scan, scanned, Scanned, replayed, recover}
 use Rattle.replay_log.specs.Answers.{rowsLent, Answers}
 use Rattle.replay_log.proofs.Scanning.{concluded, replayedFrom, replayed-whole}
-use Rattle.replay_log.proofs.Accepted.{Replayed, replay-scanned, unless-recovered}
 use Rattle.cut.specs.Cut.{ruled}
 use Rattle.cut.proofs.Recovering.{walk-is, recover-is}
 use Rattle.durable.specs.Durable.{HoldsFirst, AllEndBy, Lists, Served, CutAt}
@@ -28,7 +25,8 @@ use Rattle.durable.proofs.Recoveries.{NotRefused, not-refused, resumes,
 
 -- ---- At L
 
-module _ (k L : ℕ) (s : List ℕ) (size own : ℕ) (lent : Lent) {word : Stop} {l : List ReplayEntry} (at : NotRefused k s L size own lent word L l) where
+module _ (k L : ℕ) (s : List ℕ) (size own : ℕ) (lent : Lent) {word : Stop} {l : List ReplayEntry}
+    (at : NotRefused k s L size own lent word L l) where
   -- the entries up to L
   abbrev acknowledged : List Entry
   acknowledged = walkAt k s L 0 0 .entries
@@ -38,9 +36,14 @@ module _ (k L : ℕ) (s : List ℕ) (size own : ℕ) (lent : Lent) {word : Stop}
 
   -- ---- An image that holds them
 
+  -- it passes 1 and 2
+  holds-sound : (t : List ℕ) (used : ℕ) → HoldsFirst L s t used → Sound k used (length t)
+  holds-sound t used h =
+      record { low = at .sound .low; high = at .sound .high; within = omega (arith, h .within); most = omega (arith, h .within) }
+
   module _ (t : List ℕ) (used : ℕ) (h : HoldsFirst L s t used) where
     sound : Sound k used (length t)
-    sound = record { low = at .sound .low; high = at .sound .high; within = omega (arith, h .within); most = omega (arith, h .within) }
+    sound = holds-sound t used h
 
     -- the walk from L on
     abbrev rest : Walk
@@ -87,7 +90,8 @@ module _ (k L : ℕ) (s : List ℕ) (size own : ℕ) (lent : Lent) {word : Stop}
         ∙ replayed-whole size own lent (onwards acknowledged rest)
         ∙ ap (λ (x : Scanned). concluded x (rest .ending)) (scan-on size own lent [] acknowledged (rest .entries) (at .read .scans))
 
-    pub recovers : (w : Stop) (e : ℕ) (m : List ReplayEntry) → recover k t used size own lent ≡ recovered w e m → Served k L size own lent l t e m
+    pub recovers : (w : Stop) (e : ℕ) (m : List ReplayEntry) → recover k t used size own lent ≡ recovered w e m
+        → Served k L size own lent l t e m
     unfolding onwards
     recovers w e m is =
         let there = not-refused k t used size own lent is in
@@ -116,14 +120,10 @@ module _ (k L : ℕ) (s : List ℕ) (size own : ℕ) (lent : Lent) {word : Stop}
             within = omega (arith, there .ahead, h .within);
           }
 
-      sound-there : Sound k p (length t)
-      sound-there =
-          record { low = at .sound .low; high = at .sound .high; within = omega (arith, holds-again .within); most = omega (arith, holds-again .within) }
-
       walks-there : walk k t p ≡ record { entries = acknowledged ++ there .before; ending = stopped (there .word) (there .end) }
       unfolding onwards
       walks-there =
-          walk-is k t p sound-there
+          walk-is k t p (holds-sound t p holds-again)
           ∙ resumes k s L size own lent at .same t p (holds-again .from) (sym (h .same))
           ∙ ap (onwards acknowledged) (there .walks)
 
@@ -131,7 +131,7 @@ module _ (k L : ℕ) (s : List ℕ) (size own : ℕ) (lent : Lent) {word : Stop}
           ≡ ruled size own lent (acknowledged ++ there .before) (there .word) (there .end)
       unfolding ruled
       recovers-there size own lent =
-          recover-is k t p sound-there size own lent
+          recover-is k t p (holds-sound t p holds-again) size own lent
           ∙ ap (λ (w : Walk). unless (committeeCheck size own) (λ n. refused n 0) (replayed size own lent w)) walks-there
 
       pub cut-at : CutAt k L s t used p
@@ -149,7 +149,8 @@ module _ (k L : ℕ) (s : List ℕ) (size own : ℕ) (lent : Lent) {word : Stop}
                 ap (λ (w : Walk). w .entries) walk-on
                 ∙ ap (λ (es : List Entry). acknowledged ++ es) (there .first)
                 ∙ sym (append-assoc acknowledged (there .before) (there .after));
-            ends-by = both-end p acknowledged (there .before) (end-earlier acknowledged (holds-again .from) acknowledged-end) (there .ends-by);
+            ends-by =
+                both-end p acknowledged (there .before) (end-earlier acknowledged (holds-again .from) acknowledged-end) (there .ends-by);
             starts-from = there .starts-from;
             resumes-from = there .from;
             resumes-by = there .by;

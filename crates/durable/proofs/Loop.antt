@@ -1,5 +1,5 @@
 -- The file layer's loop: it ends, never below L, and keeps the first entries. Assumes nothing.
-use mathlib.Core.Path.{_≡_, refl, sym, ap, _∙_, subst}
+use mathlib.Core.Path.{_≡_, refl, sym, ap, _∙_}
 use mathlib.Core.Bool.{Bool, true, false}
 use mathlib.Core.List.{List, [], _++_, append-nil, append-assoc}
 use Prim.Native.Nat.{ℕ, zero, suc, _≤_, _<_}
@@ -25,7 +25,8 @@ module _ (used : ℕ) (goOn : ℕ → AfterCuts) where
   unfolding oneCut
   one-cuts n p h = rw (h, oneCut)
 
-  one-serves : (w : Stop) (e : ℕ) (l : List ReplayEntry) → oneCut used goOn (recovered w e l) ≡ record { used = used; answer = recovered w e l }
+  one-serves : (w : Stop) (e : ℕ) (l : List ReplayEntry)
+      → oneCut used goOn (recovered w e l) ≡ record { used = used; answer = recovered w e l }
   unfolding oneCut
   one-serves w e l = refl
 
@@ -56,7 +57,8 @@ module _ (k L : ℕ) (s : List ℕ) (size own : ℕ) (lent : Lent) {word : Stop}
   Down used to = CutsDown k L size own lent l t used to
 
   -- no cut is made
-  stays : (used : ℕ) → HoldsFirst L s t used → (x : Recovery) → gives used ≡ x → NothingLost L l x → Down used (record { used = used; answer = x })
+  stays : (used : ℕ) → HoldsFirst L s t used → (x : Recovery) → gives used ≡ x → NothingLost L l x
+      → Down used (record { used = used; answer = x })
   stays used h x is fine =
       record {
         from = h .from;
@@ -97,7 +99,8 @@ module _ (k L : ℕ) (s : List ℕ) (size own : ℕ) (lent : Lent) {word : Stop}
     some-left : {i p : ℕ} → gives used ≡ refused i p → 0 < used
     some-left is = omega (arith, cut-there is .ahead)
 
-    serves : {w : Stop} {e : ℕ} {m : List ReplayEntry} → gives used ≡ recovered w e m → Down used (record { used = used; answer = recovered w e m })
+    serves : {w : Stop} {e : ℕ} {m : List ReplayEntry} → gives used ≡ recovered w e m
+        → Down used (record { used = used; answer = recovered w e m })
     serves {w} {e} {m} is =
         let served = recovers k L s size own lent at t used h w e m is in
         stays used h (recovered w e m) is (served .from, served .begins)

@@ -1,4 +1,5 @@
--- Recoveries that are not refused: what they say of log and walk; with used E, and with larger tables, they are not refused either. Assumes nothing.
+-- A recovery that is not refused: what it says of log and walk, and that it gives the same with used E and with larger tables. Assumes
+-- nothing.
 use mathlib.Core.Path.{_≡_, refl, sym, ap, _∙_}
 use mathlib.Core.List.{List, [], _∷_, _++_, append-nil}
 use mathlib.Core.Logic.{⊎-elim}
@@ -21,7 +22,7 @@ use Rattle.replay_log.proofs.Scanning.{concluded, replayedFrom, replayed-whole}
 use Rattle.replay_log.proofs.Accepted.{Replayed, replay-scanned, unless-recovered}
 use Rattle.cut.proofs.Recovering.{walk-is, recover-is}
 use Rattle.durable.specs.Durable.{AtLeast, LargerTables}
-use Rattle.durable.proofs.Scans.{scan-passes, scan-refuses, accepted-decodes}
+use Rattle.durable.proofs.Scans.{scan-passes, scan-refuses, replayed-decodes}
 
 -- a recovery that is not refused: it passes 1, 2 and 18, and is the replay of the walk
 pub record NotRefused (k : ℕ) (s : List ℕ) (used size own : ℕ) (lent : Lent) (word : Stop) (e : ℕ) (l : List ReplayEntry) : Type 0 where
@@ -35,13 +36,14 @@ pub not-refused : (k : ℕ) (s : List ℕ) (used size own : ℕ) (lent : Lent) {
 unfolding recover
 not-refused k s used size own lent h =
     let w : Walk = walkAt k s used 0 0 in
-    let log = unless-recovered (logCheck k used (length s)) (unless (committeeCheck size own) (λ n. refused n 0) (replayed size own lent w)) h in
+    let log =
+    unless-recovered (logCheck k used (length s)) (unless (committeeCheck size own) (λ n. refused n 0) (replayed size own lent w)) h in
     let committee = unless-recovered (committeeCheck size own) (replayed size own lent w) (log .1) in
     record {
       sound = passed-sound k used (length s) (log .0);
       committee = committee .0;
       read = replay-scanned size own lent w (committee .1);
-      decodes = accepted-decodes size own lent w (committee .1);
+      decodes = replayed-decodes size own lent w (committee .1);
     }
 
 -- and the other way round
@@ -64,7 +66,8 @@ module _ (size own : ℕ) (lent : Lent) {word : Stop} {e : ℕ} {l : List Replay
 
 -- ---- With used E
 
-module _ (k : ℕ) (s : List ℕ) (used size own : ℕ) (lent : Lent) {word : Stop} {e : ℕ} {l : List ReplayEntry} (at : NotRefused k s used size own lent word e l) where
+module _ (k : ℕ) (s : List ℕ) (used size own : ℕ) (lent : Lent) {word : Stop} {e : ℕ} {l : List ReplayEntry}
+    (at : NotRefused k s used size own lent word e l) where
   abbrev listed : List Entry
   listed = walkAt k s used 0 0 .entries
 
@@ -135,7 +138,8 @@ module _ (size own : ℕ) (lent more : Lent) (larger : AtLeast lent more) where
 
       enough-passes : (m : Lent) → AtLeast needed m → entryCheck size own m before a ≡ item j
       enough-passes m enough =
-          check-passes size own m before a is free (rows-pass m reads (enough .pending) (enough .unprocessed) (enough .committed) (enough .index))
+          check-passes size own m before a is free
+          (rows-pass m reads (enough .pending) (enough .unprocessed) (enough .committed) (enough .index))
 
       passes-larger : entryCheck size own more before a ≡ item i
       passes-larger =
@@ -159,7 +163,8 @@ module _ (size own : ℕ) (lent more : Lent) (larger : AtLeast lent more) where
   scan-larger before (a ∷ es) {l} h = from (entryCheck size own lent before a) refl (λ x. scan-larger (before ++ (x ∷ [])) es)
     where
       from : (j : Classified) → entryCheck size own lent before a ≡ j
-          → ((x : ReplayEntry) → scan size own lent (before ++ (x ∷ [])) es ≡ scanned l → scan size own more (before ++ (x ∷ [])) es ≡ scanned l)
+          → ((x : ReplayEntry) → scan size own lent (before ++ (x ∷ [])) es ≡ scanned l
+          → scan size own more (before ++ (x ∷ [])) es ≡ scanned l)
           → scan size own more before (a ∷ es) ≡ scanned l
       from (refuse n) e rest =
           let both : refusedAt n (a .start) ≡ scanned l = sym (scan-refuses size own lent before a es e) ∙ h in

@@ -12,7 +12,7 @@ use Rattle.wal.specs.Walk as walk
 use Rattle.wal.specs.Walk.{Stop, Ending, Walk, stopped}
 use Rattle.replay.specs.Items.{Item, Classified, refuse, item, ReplayEntry}
 use Rattle.replay.specs.Rules.{keepsPending, allKeepPending, canBePending, pending}
-use Rattle.replay.specs.Recovery.{Lent, Scanned, scanned, refusedAt, scan, entryCheck, badPayload, Recovery, refused, recovered, decoded, replayed}
+use Rattle.replay.specs.Recovery.{Lent, Scanned, scanned, refusedAt, scan, entryCheck, badPayload, refused, recovered, decoded, replayed}
 use Rattle.recovered.proofs.Payloads.{payloadBad, bad-cons}
 use Rattle.replay_log.proofs.Scanning.{concluded, replayedFrom, replayed-whole}
 use Rattle.replay_log.proofs.Accepted.{replay-scanned}
@@ -40,7 +40,8 @@ isPending x later = pick (canBePending (x .item)) (allKeepPending (x .entry .sta
 still-pending : (x : ReplayEntry) (l m : List ReplayEntry) → isPending x (l ++ m) ≡ true → isPending x l ≡ true
 unfolding isPending pick
 still-pending x l m h =
-    by (canBePending (x .item)) (allKeepPending (x .entry .start) l) (allKeepPending (x .entry .start) m) (rw (all-keep (x .entry .start) l m) at h)
+    by (canBePending (x .item)) (allKeepPending (x .entry .start) l) (allKeepPending (x .entry .start) m)
+    (rw (all-keep (x .entry .start) l m) at h)
   where
     by : (c t s : Bool) → pick c (pick t s false) false ≡ true → pick c t false ≡ true
     by true true s h = refl
@@ -49,7 +50,8 @@ still-pending x l m h =
 
 -- the first payload that 11 refuses: the first entry's, if it is pending, or one behind it
 bad-first : (x : ReplayEntry) (later : List ReplayEntry)
-    → badPayload (pending (x ∷ later)) ≡ pick (isPending x later) (pick (payloadBad x) (some (x .entry .start)) (badPayload (pending later))) (badPayload (pending later))
+    → badPayload (pending (x ∷ later))
+    ≡ pick (isPending x later) (pick (payloadBad x) (some (x .entry .start)) (badPayload (pending later))) (badPayload (pending later))
 unfolding pending isPending pick
 bad-first x later = by (canBePending (x .item)) (allKeepPending (x .entry .start) later)
   where
@@ -66,7 +68,8 @@ rest-decodes true true p h = absurd (let z : _≡_ {A = ℕ} 0 1 = cc in omega a
 rest-decodes true false p h = h
 rest-decodes false b p h = h
 
-first-decodes : (s t b : Bool) (p : ℕ) (o q : Option ℕ) → (s ≡ true → t ≡ true) → pick t (pick b (some p) o) o ≡ none → pick s (pick b (some p) q) q ≡ q
+first-decodes : (s t b : Bool) (p : ℕ) (o q : Option ℕ) → (s ≡ true → t ≡ true) → pick t (pick b (some p) o) o ≡ none
+    → pick s (pick b (some p) q) q ≡ q
 unfolding pick
 first-decodes true true true p o q still h = absurd (let z : _≡_ {A = ℕ} 0 1 = cc in omega arith)
 first-decodes true true false p o q still h = refl
@@ -79,7 +82,8 @@ decodes-on [] m h = refl
 decodes-on (x ∷ l) m h =
     let none-bad = sym (bad-first x l) ∙ h in
     bad-first x (l ++ m)
-    ∙ first-decodes (isPending x (l ++ m)) (isPending x l) (payloadBad x) (x .entry .start) (badPayload (pending l)) (badPayload (pending (l ++ m))) (still-pending x l m) none-bad
+    ∙ first-decodes (isPending x (l ++ m)) (isPending x l) (payloadBad x) (x .entry .start) (badPayload (pending l))
+    (badPayload (pending (l ++ m))) (still-pending x l m) none-bad
     ∙ decodes-on l m (rest-decodes (isPending x l) (payloadBad x) (x .entry .start) none-bad)
 
 -- the entries of reads
@@ -143,7 +147,8 @@ module _ (size own : ℕ) (lent : Lent) where
     unfolding scan
     scan-passes h = rw h
 
-    pub scan-refuses : {n : ℕ} → entryCheck size own lent before a ≡ refuse n → scan size own lent before (a ∷ later) ≡ refusedAt n (a .start)
+    pub scan-refuses : {n : ℕ} → entryCheck size own lent before a ≡ refuse n
+        → scan size own lent before (a ∷ later) ≡ refusedAt n (a .start)
     unfolding scan
     scan-refuses h = rw h
 
@@ -165,7 +170,8 @@ module _ (size own : ℕ) (lent : Lent) where
       from (item i) e rest =
           scan-passes before a (xs ++ ys) e ∙ rest (record { entry = a; item = i }) (sym (scan-passes before a xs e) ∙ h)
 
-  scan-adds : (before : List ReplayEntry) (ys : List Entry) {l : List ReplayEntry} → scan size own lent before ys ≡ scanned l → Adds before ys l
+  scan-adds : (before : List ReplayEntry) (ys : List Entry) {l : List ReplayEntry} → scan size own lent before ys ≡ scanned l
+      → Adds before ys l
   unfolding scan
   scan-adds before [] {l} h =
       let same : before ≡ l = cc in
@@ -188,7 +194,8 @@ module _ (size own : ℕ) (lent : Lent) where
             reads = ap (λ (es : List Entry). a ∷ es) (more .reads);
           }
 
-  scan-place : (before : List ReplayEntry) (ys : List Entry) (n p : ℕ) (x : Ending) → scan size own lent before ys ≡ refusedAt n p → Place p ys x
+  scan-place : (before : List ReplayEntry) (ys : List Entry) (n p : ℕ) (x : Ending) → scan size own lent before ys ≡ refusedAt n p
+      → Place p ys x
   unfolding scan
   scan-place before [] n p x h = absurd (let z : _≡_ {A = ℕ} 0 1 = cc in omega arith)
   scan-place before (a ∷ ys) n p x h = from (entryCheck size own lent before a) refl (λ y. scan-place (before ++ (y ∷ [])) ys n p x)
@@ -217,7 +224,9 @@ module _ (size own : ℕ) (lent : Lent) where
           let both : decoded w e m ≡ refused n p = rw (s, f) at h in
           let adds = scan-adds l ys s in
           let bad : badPayload (pending (adds .more)) ≡ some p =
-          sym (decodes-on l (adds .more) decodes) ∙ ap (λ (r : List ReplayEntry). badPayload (pending r)) (sym (adds .is)) ∙ decoded-refuses w e m both in
+          sym (decodes-on l (adds .more) decodes)
+          ∙ ap (λ (r : List ReplayEntry). badPayload (pending r)) (sym (adds .is))
+          ∙ decoded-refuses w e m both in
           subst (λ (es : List Entry). Place p es x) (adds .reads) (bad-place (adds .more) p x bad)
       from (scanned m) s (walk.Ending.refused i q) f =
           let both : refused i q ≡ refused n p = rw (s, f) at h in
@@ -228,9 +237,11 @@ module _ (size own : ℕ) (lent : Lent) where
   scan-begins l ys h = let adds = scan-adds l ys h in record { rest = adds .more; is = adds .is }
 
   -- a replay that is not refused: its pending payloads decode
-  pub accepted-decodes : (w : Walk) {word : Stop} {e : ℕ} {l : List ReplayEntry} → replayed size own lent w ≡ recovered word e l → badPayload (pending l) ≡ none
+  pub replayed-decodes : (w : Walk) {word : Stop} {e : ℕ} {l : List ReplayEntry} → replayed size own lent w ≡ recovered word e l
+      → badPayload (pending l) ≡ none
   unfolding replayedFrom concluded
-  accepted-decodes w {word} {e} {l} h =
+  replayed-decodes w {word} {e} {l} h =
       let read = replay-scanned size own lent w h in
-      let whole : concluded (scan size own lent [] (w .entries)) (w .ending) ≡ recovered word e l = sym (replayed-whole size own lent w) ∙ h in
+      let whole : concluded (scan size own lent [] (w .entries)) (w .ending) ≡ recovered word e l =
+      sym (replayed-whole size own lent w) ∙ h in
       decoded-serves word e l (rw (read .scans, read .ends) at whole)

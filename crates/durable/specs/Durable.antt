@@ -1,7 +1,7 @@
--- Nothing that was acknowledged is lost. A node makes a log durable up to a length L, and acknowledges what lies before L. After a crash the
--- file holds the first L bytes, and behind them whatever the disk had got. Where the walk or recovery refuses an entry of that rest, the file
--- layer cuts the log at the entry's start and recovers again. `Durability`, at the end, is what is proved: these cuts lie at or past L, and
--- what is recovered begins with what was recovered at L. No refusal is named by its number, except 15, at which no cut is made.
+-- Nothing that was acknowledged is lost. A node makes its log durable up to a length L, and acknowledges what lies before L. After a crash
+-- the file holds the first L bytes, and behind them whatever came to the disk. Where recovery refuses that rest, the file layer cuts the
+-- log at the start that the refusal names, and recovers again. `Durability` is what is proved: these cuts lie at or past L, and what is
+-- recovered begins with what was recovered at L. No refusal is named by its number, except 15, at which no cut is made.
 use mathlib.Core.Path.{_≡_}
 use mathlib.Core.Bool.{Bool, true, false}
 use mathlib.Core.List.{List, [], _∷_, _++_}
@@ -100,8 +100,8 @@ pub record AfterCuts : Type 0 where
   pub used : ℕ
   pub answer : Recovery
 
--- One time around the loop, by what recovery gave with this used: it ends where recovery is not refused, or with 15; at any other refusal it
--- goes on with the log cut at the start that the refusal names.
+-- One time around the loop, by what recovery gave with this used. It ends where recovery is not refused, and at 15; at any other refusal
+-- it goes on with the log cut at the start that the refusal names.
 unfoldable pub oneCut : ℕ → (ℕ → AfterCuts) → Recovery → AfterCuts
 oneCut used goOn (recovered w e l) = record { used = used; answer = recovered w e l }
 oneCut used goOn (refused n p) = elim (asksForRows n) [ true ↦ record { used = used; answer = refused n p } | false ↦ goOn p ]
@@ -137,7 +137,8 @@ pub record CutsDown (k L size own : ℕ) (lent : Lent) (l : List ReplayEntry) (t
 -- ---- The calls
 
 -- the answer and the tables of a call of `recovery::recover` that is not refused, with E
-pub record CallServed (k L size own : ℕ) (lent : Lent) (l : List ReplayEntry) (t : List ℕ) (used e : ℕ) (before : Tables) (r : Recovered) (after : Tables) : Type 0 where
+pub record CallServed (k L size own : ℕ) (lent : Lent) (l : List ReplayEntry) (t : List ℕ) (used e : ℕ)
+    (before : Tables) (r : Recovered) (after : Tables) : Type 0 where
   pub word : Stop
   pub entries : List ReplayEntry
   pub served : Served k L size own lent l t e entries
@@ -160,13 +161,14 @@ pub record Called (k L : ℕ) (s : List ℕ) (size own : ℕ) (lent : Lent) (l :
 pub record Durable (k L : ℕ) (s : List ℕ) (size own : ℕ) (lent : Lent) (l : List ReplayEntry) (t : List ℕ) (used : ℕ) : Type 0 where
   -- "the walk lists first the entries up to L"
   pub lists : Lists k L s t used
-  -- A walk that stops resumes at or past L. The file layer takes a log that resumes before L for damaged, and refuses it: that never happens
-  -- where the first L bytes are there.
+  -- A walk that stops resumes at or past L. The file layer refuses a log that resumes before L, as damaged: this never happens where the
+  -- first L bytes are there.
   pub walk-stops : (w : Stop) (e : ℕ) → walk k t used .ending ≡ stopped w e → L ≤ e
   -- "a refusal of the walk .. has a start at or past L"
   pub walk-refused : (n p : ℕ) → walk k t used .ending ≡ Ending.refused n p → CutAt k L s t used p
   -- a recovery that is not refused gives what was recovered at L, and what stands behind it
-  pub recovers : (w : Stop) (e : ℕ) (m : List ReplayEntry) → recover k t used size own lent ≡ recovered w e m → Served k L size own lent l t e m
+  pub recovers : (w : Stop) (e : ℕ) (m : List ReplayEntry) → recover k t used size own lent ≡ recovered w e m
+      → Served k L size own lent l t e m
   -- "or of recovery .. has a start at or past L". With the tables of L this holds of 15 too; the file layer makes no cut then. A payload
   -- before L that is pending, so that 11 could refuse it, was pending at L, and decodes.
   pub recovery-refused : (n p : ℕ) → recover k t used size own lent ≡ refused n p → CutAt k L s t used p
@@ -176,9 +178,9 @@ pub record Durable (k L : ℕ) (s : List ℕ) (size own : ℕ) (lent : Lent) (l 
   pub loop : cutDown k t size own lent used ≡ oneCut used (cutDown k t size own lent) (recover k t used size own lent)
   pub cuts-down : CutsDown k L size own lent l t used (cutDown k t size own lent used)
 
--- "Let a log be given with a length L at which recovery is not refused (L an entry's end or 0)": recovery of s with used L stops with E = L.
--- Then 1, 2 and 18 do not refuse it, so that k is 6 to 28 and L is within s and 2^40. Committee, own authority and tables are "the
--- committee, own authority and tables with which recovery at L was not refused".
+-- "Let a log be given with a length L at which recovery is not refused (L an entry's end or 0)": recovery of s with used L stops, and E is
+-- L. It has passed 1, 2 and 18 then, so that k is 6 to 28, L is within s and 2^40, and the committee passes. Committee, own authority and
+-- tables are "the committee, own authority and tables with which recovery at L was not refused".
 abbrev pub Durability : Type 0
 Durability =
     (k L : ℕ) (s : List ℕ) (size own : ℕ) (lent : Lent) (word : Stop) (l : List ReplayEntry)
@@ -194,7 +196,7 @@ pub record AtLeast (lent more : Lent) : Type 0 where
   pub committed : lent .committed ≤ more .committed
   pub index : lent .index ≤ more .index
 
--- A recovery that is not refused gives the same with larger tables. So after 15, which asks for them, `Durability` holds of the larger ones.
+-- A recovery that is not refused gives the same with larger tables. So `Durability` holds of those that are lent after 15.
 abbrev pub LargerTables : Type 0
 LargerTables =
     (k : ℕ) (s : List ℕ) (used size own : ℕ) (lent more : Lent) (word : Stop) (e : ℕ) (l : List ReplayEntry) → AtLeast lent more

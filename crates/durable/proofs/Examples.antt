@@ -1,7 +1,7 @@
 -- Cuts of small logs, computed. Assumes nothing.
 use mathlib.Core.Path.{_≡_, refl}
 use mathlib.Core.Bool.{false}
-use mathlib.Core.List.{List, [], _∷_, _++_, map}
+use mathlib.Core.List.{List, [], _∷_, _++_}
 use Prim.Native.Nat.{ℕ}
 use lib.ListN.{length}
 use Rattle.laws.specs.Pick.{pick}
@@ -69,11 +69,12 @@ ownBlockLog =
 
 -- With all 272 bytes 5 refuses the header at 256. Cut there, 11 refuses the payload at 39, which the own block does not drop. That cut
 -- takes the own block away, and the payload at 16 is pending again: 11 refuses it too. What is left is the state.
-three-cuts : (map (recovery 8 ownBlockLog) (272 ∷ 256 ∷ 39 ∷ 16 ∷ [])
-    ≡ (5 ∷ 256 ∷ []) ∷ (11 ∷ 39 ∷ []) ∷ (11 ∷ 16 ∷ []) ∷ (0 ∷ 16 ∷ 1 ∷ []) ∷ [])
-    × (afterCuts eightRows 8 ownBlockLog 272 ≡ 16 ∷ 0 ∷ 16 ∷ 1 ∷ [])
-unfolding recovery afterCuts told eightRows ownBlockLog pick bytesAt zeros le ofLe then raw number many joined answer crc.digits crc.number crc.plus crc.times crc.power crc.generator crc.reduce crc.remainder crc.messageBits crc.complement crc.crc32 entryBytes checksumAt lengthAt tagAt payloadAt bool boolBytes vec vecBytes byteString byteStringBytes exactly digest digestBytes signature signatureBytes reference referenceBytes statement block blockBytes payload ownBlock ownBlockBytes commitData commit committeeCheck regionStart nextRegion logCheck unless endOf announced lookAt move listing moveAt follow walkAt compared choose classify blockIn lastOf gather keepsPending allKeepPending canBePending pending stateIn stateOf afterState blocksIn blocks unprocessed sortKey insert setOf commitsIn commits committed latest index hasBlockIn blockCheck rowsCheck entryCheck scan badPayload decoded replayed recover asksForRows oneCut cutFrom cutDown
-three-cuts = (refl, refl)
+threeCuts : List ℕ → List (List ℕ)
+threeCuts image = recovery 8 image 256 ∷ recovery 8 image 39 ∷ afterCuts eightRows 8 image 272 ∷ []
+
+three-cuts : threeCuts ownBlockLog ≡ (11 ∷ 39 ∷ []) ∷ (11 ∷ 16 ∷ []) ∷ (16 ∷ 0 ∷ 16 ∷ 1 ∷ []) ∷ []
+unfolding threeCuts recovery afterCuts told eightRows ownBlockLog pick bytesAt zeros le ofLe then raw number many joined answer crc.digits crc.number crc.plus crc.times crc.power crc.generator crc.reduce crc.remainder crc.messageBits crc.complement crc.crc32 entryBytes checksumAt lengthAt tagAt payloadAt bool boolBytes vec vecBytes byteString byteStringBytes exactly digest digestBytes signature signatureBytes reference referenceBytes statement block blockBytes payload ownBlock ownBlockBytes commitData commit committeeCheck regionStart nextRegion logCheck unless endOf announced lookAt move listing moveAt follow walkAt compared choose classify blockIn lastOf gather keepsPending allKeepPending canBePending pending stateIn stateOf afterState blocksIn blocks unprocessed sortKey insert setOf commitsIn commits committed latest index hasBlockIn blockCheck rowsCheck entryCheck scan badPayload decoded replayed recover asksForRows oneCut cutFrom cutDown
+three-cuts = refl
 
 -- ---- Small logs, with k = 6
 

@@ -5,4 +5,5 @@ pub mod Images
 pub mod Loop
 pub mod Calls
 pub mod Durability
+pub mod Tables
 pub mod Examples

@@ -187,7 +187,7 @@ Durability =
     → recover k s L size own lent ≡ recovered word L l
     → (t : List ℕ) (used : ℕ) → HoldsFirst L s t used → Durable k L s size own lent l t used
 
--- ---- Larger tables
+-- ---- Other tables
 
 -- at least as many rows in each table
 pub record AtLeast (lent more : Lent) : Type 0 where
@@ -196,8 +196,20 @@ pub record AtLeast (lent more : Lent) : Type 0 where
   pub committed : lent .committed ≤ more .committed
   pub index : lent .index ≤ more .index
 
--- A recovery that is not refused gives the same with larger tables. So `Durability` holds of those that are lent after 15.
+-- A recovery that is not refused with 15 gives the same with larger tables.
 abbrev pub LargerTables : Type 0
 LargerTables =
-    (k : ℕ) (s : List ℕ) (used size own : ℕ) (lent more : Lent) (word : Stop) (e : ℕ) (l : List ReplayEntry) → AtLeast lent more
-    → recover k s used size own lent ≡ recovered word e l → recover k s used size own more ≡ recovered word e l
+    (k : ℕ) (s : List ℕ) (used size own : ℕ) (lent more : Lent) → AtLeast lent more
+    → ((p : ℕ) → recover k s used size own lent ≡ refused 15 p → ⊥) → recover k s used size own more ≡ recover k s used size own lent
+
+-- A recovery of t with whatever tables: the file layer sizes them by the log that it finds, and not by the one of L.
+pub record WithTables (k L : ℕ) (s : List ℕ) (size own : ℕ) (l : List ReplayEntry) (t : List ℕ) (used : ℕ) (lent : Lent) : Type 0 where
+  pub recovers : (w : Stop) (e : ℕ) (m : List ReplayEntry) → recover k t used size own lent ≡ recovered w e m → (L ≤ e) × BeginsWith l m
+  -- "a refusal .. of recovery other than 15 .. has a start at or past L"
+  pub recovery-refused : (n p : ℕ) → recover k t used size own lent ≡ refused n p → (n ≡ 15 → ⊥) → CutAt k L s t used p
+
+abbrev pub OtherTables : Type 0
+OtherTables =
+    (k L : ℕ) (s : List ℕ) (size own : ℕ) (lent : Lent) (word : Stop) (l : List ReplayEntry)
+    → recover k s L size own lent ≡ recovered word L l
+    → (t : List ℕ) (used : ℕ) → HoldsFirst L s t used → (other : Lent) → WithTables k L s size own l t used other

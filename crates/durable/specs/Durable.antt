@@ -181,10 +181,12 @@ pub record Durable (k L : ℕ) (s : List ℕ) (size own : ℕ) (lent : Lent) (l 
 -- "Let a log be given with a length L at which recovery is not refused (L an entry's end or 0)": recovery of s with used L stops, and E is
 -- L. It has passed 1, 2 and 18 then, so that k is 6 to 28, L is within s and 2^40, and the committee passes. Committee, own authority and
 -- tables are "the committee, own authority and tables with which recovery at L was not refused".
+abbrev pub NotRefusedAt : ℕ → ℕ → List ℕ → ℕ → ℕ → Lent → Stop → List ReplayEntry → Type 0
+NotRefusedAt k L s size own lent word l = recover k s L size own lent ≡ recovered word L l
+
 abbrev pub Durability : Type 0
 Durability =
-    (k L : ℕ) (s : List ℕ) (size own : ℕ) (lent : Lent) (word : Stop) (l : List ReplayEntry)
-    → recover k s L size own lent ≡ recovered word L l
+    (k L : ℕ) (s : List ℕ) (size own : ℕ) (lent : Lent) (word : Stop) (l : List ReplayEntry) → NotRefusedAt k L s size own lent word l
     → (t : List ℕ) (used : ℕ) → HoldsFirst L s t used → Durable k L s size own lent l t used
 
 -- ---- Other tables
@@ -210,6 +212,5 @@ pub record WithTables (k L : ℕ) (s : List ℕ) (size own : ℕ) (l : List Repl
 
 abbrev pub OtherTables : Type 0
 OtherTables =
-    (k L : ℕ) (s : List ℕ) (size own : ℕ) (lent : Lent) (word : Stop) (l : List ReplayEntry)
-    → recover k s L size own lent ≡ recovered word L l
+    (k L : ℕ) (s : List ℕ) (size own : ℕ) (lent : Lent) (word : Stop) (l : List ReplayEntry) → NotRefusedAt k L s size own lent word l
     → (t : List ℕ) (used : ℕ) → HoldsFirst L s t used → (other : Lent) → WithTables k L s size own l t used other

@@ -1,13 +1,16 @@
 //! A small node that runs: it logs the cards that it reads, a line each, and takes them up in blocks of its own.
 //!
+//!     cargo run --example node -- --create PATH
 //!     cargo run --example node -- PATH
 //!
-//! It creates the log at PATH or opens the one there, and tells on standard error what it found. For each line of standard input it logs a
-//! card and syncs; once that has returned it writes `card POSITION`: from then on no crash loses the card. Every eight cards it makes an
-//! own block of those that are pending and writes `block ROUND POSITION`. Kill it at any moment and start it again.
+//! It opens the log at PATH and tells on standard error what it found; the first time only, `--create` makes it. (A node that made a new log
+//! where the old one is missing would sign a second block in rounds that it has signed.) For each line of standard input it logs a card and
+//! syncs; once that has returned it writes `card POSITION`: from then on no crash loses the card. Every eight cards it makes an own block of
+//! those that are pending and writes `block ROUND POSITION`. Kill it at any moment and start it again.
 use kadzhomir::{
     encode_own_block, BlockBuilder, BlockReference, Error, Node, Options, Payload, Pending, Recovered, Statement, WalPosition,
 };
+use std::ffi::OsString;
 use std::io::{BufRead, Write};
 use std::path::Path;
 use std::process::ExitCode;
@@ -28,8 +31,13 @@ fn main() -> ExitCode {
 }
 
 fn run() -> Result<(), Box<dyn std::error::Error>> {
-    let path = std::env::args().nth(1).ok_or("usage: node PATH")?;
-    let (mut node, mut pending) = start(Path::new(&path))?;
+    let words: Vec<OsString> = std::env::args_os().skip(1).collect();
+    let (create, path) = match &words[..] {
+        [path] => (false, path),
+        [flag, path] if flag == "--create" => (true, path),
+        _ => return Err("usage: node [--create] PATH".into()),
+    };
+    let (mut node, mut pending) = start(Path::new(path), create)?;
     for card in std::io::stdin().lock().lines() {
         let statement = Statement::Share(card?.into_bytes());
         let payload = Payload::from(vec![statement.clone()]).encode();
@@ -46,12 +54,10 @@ fn run() -> Result<(), Box<dyn std::error::Error>> {
 }
 
 /// Opens the log, or creates it, with the cards that wait for a block.
-fn start(path: &Path) -> Result<(Node, Vec<Statement>), Error> {
+fn start(path: &Path, create: bool) -> Result<(Node, Vec<Statement>), Error> {
     let options = Options::new(OFFICES, OWN);
-    match Node::create(path, &options) {
-        Ok(node) => return Ok((node, Vec::new())),
-        Err(Error::Exists { .. }) => (),
-        Err(error) => return Err(error),
+    if create {
+        return Ok((Node::create(path, &options)?, Vec::new()));
     }
     let opened = Node::open(path, &options)?;
     if let Some(aside) = &opened.aside {

@@ -125,8 +125,14 @@ fn lose_pages(random: &mut Random, crashed: &Crashed) -> Vec<u8> {
     let mut left = crashed.bytes.clone();
     for page in crashed.known / PAGE..=left.len() / PAGE {
         let (from, to) = ((page * PAGE).max(crashed.known), ((page + 1) * PAGE).min(left.len()));
-        if from < to && random.below(2) == 0 {
-            left[from..to].fill(0);
+        match random.below(8) {
+            0..4 => (),
+            4..7 => left[from..to.max(from)].fill(0),
+            _ => {
+                // Bytes that the disk had there before.
+                let old = random.bytes(to.saturating_sub(from));
+                left[from..to.max(from)].copy_from_slice(&old);
+            }
         }
     }
     let behind = (left.len() - crashed.known) as u64;
@@ -164,13 +170,23 @@ fn whatever_the_bytes_a_node_starts() {
     }
 }
 
-/// The example node beside the tool: cargo builds both for the tests.
+/// The example node beside the tool.
 fn example() -> PathBuf {
     Path::new(env!("CARGO_BIN_EXE_kadzhomir")).with_file_name("examples").join("node")
 }
 
+/// Starts it, so that it creates its log where a kill left none, or half of one.
 fn spawn(path: &Path) -> Child {
-    Command::new(example()).arg(path).stdin(Stdio::piped()).stdout(Stdio::piped()).stderr(Stdio::null()).spawn().unwrap()
+    let mut node = Command::new(example());
+    if !beside(path).exists() {
+        node.arg("--create");
+    }
+    node.arg(path)
+        .stdin(Stdio::piped())
+        .stdout(Stdio::piped())
+        .stderr(Stdio::null())
+        .spawn()
+        .expect("plain `cargo test` builds the example")
 }
 
 /// Feeds a node cards until it is killed after so long, and answers how many it acknowledged.

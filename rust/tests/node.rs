@@ -256,14 +256,20 @@ fn a_wrong_exponent_is_not_taken() {
     let folder = Folder::on_disk();
     let path = folder.file("log");
     let mut log = Log::new(10, vec![0; 1 << 17], 0);
-    for _ in 0..100 {
+    for _ in 0..101 {
         log.append_raw(4, &[7; 600]).unwrap();
     }
     let used = log.used() as usize;
     fs::write(&path, &log.image()[..used]).unwrap();
     let error = Node::adopt(&path, &options().exponent(28)).unwrap_err();
     assert!(matches!(error, Error::UnreadTail { end: WalPosition(616), .. }), "{error}");
-    assert_eq!(fs::metadata(&path).unwrap().len(), used as u64);
+    // With these the walk ends well, with entries passed over as padding.
+    for k in [11, 12] {
+        let error = Node::adopt(&path, &options().exponent(k)).unwrap_err();
+        assert!(matches!(error, Error::HiddenByte { position: WalPosition(1024) }), "{k}: {error}");
+    }
+    assert_eq!((fs::metadata(&path).unwrap().len(), folder.files("log").len()), (used as u64, 1));
+    assert!(Node::adopt(&path, &options().exponent(10)).is_ok());
 }
 
 #[test]
@@ -278,6 +284,10 @@ fn a_log_is_cut_by_hand() {
     fs::write(&path, &changed).unwrap();
     assert_eq!(Cut::file(&path, None, None).unwrap_err().start(), Some(WalPosition(third)));
     assert!(matches!(Cut::file(&path, Some(9), None), Err(Error::Mismatch { .. })));
+    // A place within an entry, or past the file's end, is no place to cut.
+    let within = Cut::file(&path, None, Some(WalPosition(third - 1))).unwrap_err();
+    assert!(matches!(within, Error::UnreadTail { .. }), "{within}");
+    assert_eq!(Cut::file(&path, None, Some(WalPosition::MAX)).unwrap_err().refusal(), Some(Refusal::Used));
     let cut = Cut::file(&path, None, Some(WalPosition(third))).unwrap();
     assert_eq!((cut.end.0, cut.acknowledged), (third, bytes.len() as u64 - third));
     assert_eq!(fs::read(cut.aside.unwrap().path).unwrap(), changed[third as usize..]);

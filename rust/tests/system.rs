@@ -87,7 +87,7 @@ fn a_file_that_may_not_grow() {
     let folder = Folder::on_disk();
     let path = folder.file("log");
     // 16 blocks of 512 bytes, as much as the node file has; a write past them fails, as on a full disk.
-    let limited = "trap '' XFSZ; ulimit -f 16; exec \"$0\" \"$1\"";
+    let limited = "trap '' XFSZ; ulimit -f 16; exec \"$0\" --create \"$1\"";
     let mut node = Command::new("sh");
     node.args(["-c", limited]).arg(example()).arg(&path).stdin(Stdio::piped()).stdout(Stdio::piped()).stderr(Stdio::piped());
     let mut node = node.spawn().unwrap();
@@ -137,10 +137,10 @@ fn fill(disk: &Path) {
     drop(node);
     // Still full: what was torn cannot be set aside, so that nothing is cut.
     let before = fs::read(&path).unwrap();
-    if Node::open(&path, &options()).is_err() {
-        assert_eq!(fs::read(&path).unwrap(), before);
-        assert_eq!(fs::read_dir(disk).unwrap().count(), 3);
-    }
+    let error = Node::open(&path, &options()).unwrap_err();
+    assert!(matches!(error, Error::Io { .. }), "{error}");
+    assert_eq!(fs::read(&path).unwrap(), before);
+    assert_eq!(fs::read_dir(disk).unwrap().count(), 3);
     fs::remove_file(&ballast).unwrap();
     let mut node = Node::open(&path, &options()).unwrap().node;
     let found = listed(10, node.log().image());

@@ -251,6 +251,7 @@ def wrong():
         ("", 64), ("look sound", 64), ("list", 64), ("list sound torn", 64), ("list sound --own 1", 64), ("dump sound", 64),
         ("dump sound x", 64), ("list sound --exponent", 64), ("list sound --from -1", 64), ("list none", 74),
         ("list bare", 64), ("list sound --exponent 11", 2), ("recover sound --own 1", 2), ("recover bare " + GIVEN, 64),
+        ("list sound --from %d" % (KNOWN + 1), 64), ("cut sound --at %d" % (KNOWN + 1), 2), ("cut sound --at %d" % (AT[2] + 1), 2),
     ]:  # fmt: skip
         yield [(words, ([], status))]
     yield [("list bare --exponent 5", (["REFUSED 1"], 2))]

@@ -32,12 +32,17 @@ pub enum Error {
         /// Where it was looked for.
         path: PathBuf,
     },
-    /// The node file cannot be read: no slot has its checksum, or it is of another version.
+    /// Neither slot of the node file is whole.
     BadNodeFile {
         /// The node file.
         path: PathBuf,
-        /// What is wrong with it.
-        why: &'static str,
+    },
+    /// The node file is of a version that this program does not know.
+    NodeFileVersion {
+        /// The node file.
+        path: PathBuf,
+        /// Its version.
+        version: u64,
     },
     /// What was asked is not what the log was written with.
     Mismatch {
@@ -67,12 +72,17 @@ pub enum Error {
         /// The refusal, where there is one.
         refusal: Option<Refusal>,
     },
-    /// Bytes that are not zero lie behind the last whole entry of a log that is to be adopted. Nothing was changed.
+    /// Bytes that are not all zero lie behind the last whole entry of a log that is to be adopted, or cut at a place. Nothing was changed.
     UnreadTail {
         /// The end of the last whole entry.
         end: WalPosition,
         /// The bytes behind it.
         unread: u64,
+    },
+    /// A byte that is not zero stands between two entries of a log that is to be adopted, as padding does not. Nothing was changed.
+    HiddenByte {
+        /// Where it stands.
+        position: WalPosition,
     },
     /// An earlier write or sync failed, so that it is not known what is on disk.
     Failed,
@@ -94,6 +104,7 @@ impl Error {
             Error::Refused { start, .. } => *start,
             Error::Damaged { position, .. } => Some(*position),
             Error::UnreadTail { end, .. } => Some(*end),
+            Error::HiddenByte { position } => Some(*position),
             _ => None,
         }
     }
@@ -106,6 +117,7 @@ impl Error {
             Error::Exists { .. } => "open the log, or name another file",
             Error::NoNodeFile { .. } => "put the node file back from a backup, or adopt the log with the exponent it was written with",
             Error::BadNodeFile { .. } => "put the node file back from a backup; or move it away and adopt the log",
+            Error::NodeFileVersion { .. } => "use the program of that version; the file may be sound",
             Error::Mismatch { .. } => "pass what the log was written with",
             Error::NoExponent => "pass the exponent with which the log was written",
             Error::Refused { refusal, .. } => refusal.remedy(),
@@ -113,6 +125,7 @@ impl Error {
                 "copy both files, then go on from a good copy; or give up what lies behind that place with `kadzhomir cut --at`"
             }
             Error::UnreadTail { .. } => "see whether the exponent is the log's; `kadzhomir cut` moves these bytes into a file of their own",
+            Error::HiddenByte { .. } => "see whether the exponent is the log's: with a wrong one entries are passed over as padding",
             Error::Failed => "open the node again: it goes on with what is whole on disk",
         }
     }
@@ -130,7 +143,8 @@ impl fmt::Display for Error {
             Error::Locked { path } => write!(f, "another process has {} open", path.display())?,
             Error::Exists { path } => write!(f, "{} is there already", path.display())?,
             Error::NoNodeFile { path } => write!(f, "there is no node file {}", path.display())?,
-            Error::BadNodeFile { path, why } => write!(f, "the node file {} cannot be used: {why}", path.display())?,
+            Error::BadNodeFile { path } => write!(f, "the node file {} is damaged in both of its slots", path.display())?,
+            Error::NodeFileVersion { path, version } => write!(f, "the node file {} is of version {version}", path.display())?,
             Error::Mismatch { what, recorded, asked } => write!(f, "the log's {what} is {recorded}, and {asked} was asked for")?,
             Error::NoExponent => f.write_str("no exponent was given for a log without a node file")?,
             // The refusal says by itself what to do.
@@ -145,6 +159,7 @@ impl fmt::Display for Error {
             Error::UnreadTail { end, unread } => {
                 write!(f, "the {unread} bytes behind the last whole entry, which ends at {end}, are not zero")?
             }
+            Error::HiddenByte { position } => write!(f, "the byte at {position} is not zero and belongs to no entry")?,
             Error::Failed => f.write_str("an earlier write or sync failed")?,
         }
         write!(f, "; {}", self.remedy())

@@ -19,13 +19,13 @@ impl LogFile {
     /// Opens a log that is there.
     pub fn open(path: &Path) -> Result<Self, Error> {
         let file = OpenOptions::new().read(true).write(true).open(path).map_err(Error::io("open", path))?;
-        Self::locked(file, path)
+        Self::locked(file, path)?.regular()
     }
 
     /// Creates an empty log. A file that is there already and empty is taken too: it is what a crash in this call leaves.
     pub fn create(path: &Path) -> Result<Self, Error> {
         let options = OpenOptions::new().read(true).write(true).create(true).truncate(false).clone();
-        let log = Self::locked(options.open(path).map_err(Error::io("create", path))?, path)?;
+        let log = Self::locked(options.open(path).map_err(Error::io("create", path))?, path)?.regular()?;
         if log.len()? != 0 {
             return Err(Error::Exists { path: path.to_path_buf() });
         }
@@ -43,7 +43,16 @@ impl LogFile {
     /// Opens a log to look at it, without a lock: a node may be writing to it.
     pub fn look(path: &Path) -> Result<Self, Error> {
         let file = File::open(path).map_err(Error::io("open", path))?;
-        Ok(Self { file, path: path.to_path_buf() })
+        Self { file, path: path.to_path_buf() }.regular()
+    }
+
+    /// Refuses a pipe or a device, which has no length and would read as an empty log.
+    fn regular(self) -> Result<Self, Error> {
+        match self.file.metadata() {
+            Ok(data) if data.is_file() => Ok(self),
+            Ok(_) => Err(Error::io("use", &self.path)(io::Error::new(io::ErrorKind::InvalidInput, "it is no regular file"))),
+            Err(source) => Err(Error::io("look at", &self.path)(source)),
+        }
     }
 
     pub fn path(&self) -> &Path {
@@ -86,7 +95,8 @@ impl LogFile {
             return Ok(None);
         }
         let (mut file, path) = self.create_aside(end)?;
-        let written = file.write_all(tail).and_then(|()| file.sync_all());
+        let mode = self.file.metadata().and_then(|data| file.set_permissions(data.permissions()));
+        let written = mode.and_then(|()| file.write_all(tail)).and_then(|()| file.sync_all());
         if let Err(source) = written {
             // On a full disk half of it helps nobody, and the log has the bytes still.
             let _ = std::fs::remove_file(&path);

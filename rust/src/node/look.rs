@@ -26,11 +26,16 @@ pub struct Cut {
 }
 
 impl Look {
-    /// Reads a log and, where it is there, its node file. Without one the exponent must be given; with one, another is refused.
+    /// Reads a log and, where it is there, its node file. Without one the exponent must be given; with one, another is refused. With an
+    /// exponent a node file that cannot be used counts as none.
     pub fn at(path: impl AsRef<Path>, exponent: Option<u64>) -> Result<Self, Error> {
         let path = path.as_ref();
         let file = LogFile::look(path)?;
-        let settings = NodeFile::open_if_there(path, false)?.map(|f| f.settings());
+        let node_file = match NodeFile::open_if_there(path, false) {
+            Err(Error::BadNodeFile { .. } | Error::NodeFileVersion { .. }) if exponent.is_some() => None,
+            answer => answer?,
+        };
+        let settings = node_file.map(|f| f.settings());
         let k = exponent_of(settings.as_ref(), exponent)?;
         let image = file.read()?;
         let used = image.len() as u64;
@@ -56,9 +61,9 @@ impl Look {
 }
 
 impl Cut {
-    /// Cuts a log at the end of its last whole entry that ends by `at`, or, where none is given, of its last one. What is cut off and is not
-    /// all zero is put into a file of its own first. A log that a walk refuses is not cut but at a place before the damage, and only by
-    /// `at` are bytes cut off that were known to be on disk.
+    /// Cuts a log behind its last whole entry; or at `at`, which is an entry's end, or has zeros alone between itself and one. What is cut
+    /// off and is not all zero is put into a file of its own first. A log that a walk refuses is not cut but at a place before the damage,
+    /// and only by `at` are bytes cut off that were known to be on disk.
     ///
     /// This is for a log that cannot be opened: [`super::Node::open`] cuts what a crash left by itself, and never what was acknowledged.
     pub fn file(path: impl AsRef<Path>, exponent: Option<u64>, at: Option<WalPosition>) -> Result<Self, Error> {
@@ -67,9 +72,13 @@ impl Cut {
         let mut node_file = NodeFile::open_if_there(path, true)?;
         let k = exponent_of(node_file.as_ref().map(|f| f.settings()).as_ref(), exponent)?;
         let image = file.read()?;
-        let used = at.map_or(image.len() as u64, |at| at.0.min(image.len() as u64));
+        let used = at.map_or(image.len() as u64, |at| at.0);
         let log = Log::new(k, image, used);
-        let end = log.walk()?.end;
+        let walked = log.walk()?;
+        let end = walked.end;
+        if at.is_some() && log.image()[end.0 as usize..used as usize].iter().any(|b| *b != 0) {
+            return Err(Error::UnreadTail { end, unread: walked.unread });
+        }
         let known = node_file.as_ref().map_or(0, |f| f.settings().known);
         if at.is_none() && end.0 < known {
             return Err(Error::Damaged { position: end, known, refusal: None });

@@ -146,19 +146,21 @@ impl Node {
         let path = path.as_ref();
         let settings = options.settings(options.exponent.unwrap_or(28), 0);
         // Refuses what no log can be written with before there is one.
-        Plan::of(Vec::new(), &settings)?;
+        let plan = Plan::of(Vec::new(), &settings)?;
+        refuse_node_file(path)?;
         let file = LogFile::create(path)?;
         refuse_node_file(path)?;
         file.sync()?;
         sync_folder(path)?;
         let node_file = NodeFile::create(path, settings)?;
-        Ok(Self::go_on(file, node_file, Plan::of(Vec::new(), &settings)?)?.node)
+        Ok(Self { store: plan.store, file, node_file, failed: false })
     }
 
     /// Makes the node file of a log that has none, as the original's logs, and opens it. The exponent must be given: with another one
     /// than it was written with, a log may seem to end well after a few entries.
     ///
-    /// Nothing is cut: bytes behind the last whole entry are refused unless they are zero ([`Error::UnreadTail`]).
+    /// Nothing is cut: bytes behind the last whole entry are refused unless they are zero ([`Error::UnreadTail`]), and so are bytes between
+    /// entries ([`Error::HiddenByte`]).
     pub fn adopt(path: impl AsRef<Path>, options: &Options) -> Result<Opened, Error> {
         let path = path.as_ref();
         let settings = options.settings(options.exponent.ok_or(Error::NoExponent)?, 0);
@@ -172,24 +174,54 @@ impl Node {
         if plan.tail().iter().any(|b| *b != 0) {
             return Err(Error::UnreadTail { end: WalPosition(plan.end()), unread: plan.recovered.unread() });
         }
-        let node_file = NodeFile::create(path, settings)?;
-        Self::go_on(file, node_file, plan)
+        if let Some(position) = hidden_byte(plan.store.log()) {
+            return Err(Error::HiddenByte { position });
+        }
+        // The log first: a node file says nothing of bytes that are not on disk.
+        let (store, aside) = settle(&file, plan.store, 0)?;
+        let node_file = NodeFile::create(path, Settings { known: store.log().used(), ..settings })?;
+        Ok(Opened { node: Self { store, file, node_file, failed: false }, recovered: plan.recovered, cuts: plan.cuts, aside })
     }
 
-    /// Cuts the file where the plan says, syncs it, and says in the node file that all of it is on disk: what the node believes from now
-    /// on must not be lost by the next crash.
-    fn go_on(file: LogFile, node_file: NodeFile, plan: Plan) -> Result<Opened, Error> {
-        let end = plan.end();
-        let aside = file.set_aside(end, plan.tail())?;
-        if !plan.tail().is_empty() {
-            file.cut(end)?;
+    /// Has on disk what the node believes from now on, and says so in the node file: the next crash must not lose it. Nothing is taken
+    /// to be on disk because it was read: after a kill, or a sync that failed, it may be in the system's memory alone.
+    fn go_on(file: LogFile, mut node_file: NodeFile, plan: Plan) -> Result<Opened, Error> {
+        let known = node_file.settings().known;
+        let (store, aside) = settle(&file, plan.store, known)?;
+        node_file.confirm()?;
+        if store.log().used() != known {
+            node_file.set_known(store.log().used())?;
         }
-        let Plan { mut store, recovered, cuts } = plan;
-        store.image_mut().truncate(end as usize);
-        let mut node = Self { store, file, node_file, failed: false };
-        node.sync()?;
-        Ok(Opened { node, recovered, cuts, aside })
+        sync_folder(file.path())?;
+        Ok(Opened { node: Self { store, file, node_file, failed: false }, recovered: plan.recovered, cuts: plan.cuts, aside })
     }
+}
+
+/// Cuts the file behind the store's log, once what is cut off is set aside, and has the log's bytes from `known` on written and on disk.
+fn settle(file: &LogFile, mut store: BlockStore<Vec<u8>>, known: u64) -> Result<(BlockStore<Vec<u8>>, Option<Aside>), Error> {
+    let end = store.log().used();
+    let tail = &store.log().image()[end as usize..];
+    let aside = file.set_aside(end, tail)?;
+    if !tail.is_empty() {
+        file.cut(end)?;
+    }
+    store.image_mut().truncate(end as usize);
+    file.write_at(&store.log().image()[known as usize..], known)?;
+    file.sync()?;
+    Ok((store, aside))
+}
+
+/// The first byte between two entries that is not zero.
+fn hidden_byte(log: &Log<Vec<u8>>) -> Option<WalPosition> {
+    let mut end = 0;
+    for entry in log.entries().map_while(Result::ok) {
+        let start = entry.position.0 as usize;
+        if let Some(at) = log.image()[end..start].iter().position(|b| *b != 0) {
+            return Some(WalPosition((end + at) as u64));
+        }
+        end = entry.end().0 as usize;
+    }
+    None
 }
 
 fn refuse_node_file(log: &Path) -> Result<(), Error> {

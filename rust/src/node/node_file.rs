@@ -6,7 +6,7 @@
 use super::error::Error;
 use crate::crc32;
 use std::fs::{File, OpenOptions};
-use std::io::{self, Write};
+use std::io::{self, Read, Write};
 use std::os::unix::fs::FileExt;
 use std::path::{Path, PathBuf};
 
@@ -60,7 +60,7 @@ impl Settings {
         slot
     }
 
-    /// The settings and the sequence number of a slot that is whole, with its version.
+    /// The version, the sequence number and the settings of a slot that is whole.
     fn of_slot(slot: &[u8]) -> Option<(u64, u64, Self)> {
         let word = |i: usize| u64::from_le_bytes(slot[8 * i..8 * i + 8].try_into().unwrap_or_default());
         if slot.len() < SLOT || slot[..8] != MAGIC || word(7) != u64::from(crc32(&slot[..56])) {
@@ -70,11 +70,12 @@ impl Settings {
     }
 
     /// Of the newest whole slot.
-    fn of_file(bytes: &[u8]) -> Result<(u64, Self), &'static str> {
+    fn of_file(path: &Path, bytes: &[u8]) -> Result<(u64, Self), Error> {
         let slots = [0, PAGE as usize].iter().filter_map(|at| Self::of_slot(bytes.get(*at..*at + SLOT)?));
-        let (version, sequence, settings) = slots.max_by_key(|s| s.1).ok_or("neither of its slots is whole")?;
+        let newest = slots.max_by_key(|s| s.1);
+        let (version, sequence, settings) = newest.ok_or_else(|| Error::BadNodeFile { path: path.to_path_buf() })?;
         if version != VERSION {
-            return Err("its version is not 1");
+            return Err(Error::NodeFileVersion { path: path.to_path_buf(), version });
         }
         Ok((sequence, settings))
     }
@@ -85,8 +86,9 @@ impl NodeFile {
     pub fn open(log: &Path, write: bool) -> Result<Self, Error> {
         let path = path_beside(log);
         let file = OpenOptions::new().read(true).write(write).open(&path).map_err(|source| missing(source, &path))?;
-        let bytes = std::fs::read(&path).map_err(Error::io("read", &path))?;
-        let (sequence, settings) = Settings::of_file(&bytes).map_err(|why| Error::BadNodeFile { path: path.clone(), why })?;
+        let mut bytes = Vec::new();
+        (&file).take(2 * PAGE).read_to_end(&mut bytes).map_err(Error::io("read", &path))?;
+        let (sequence, settings) = Settings::of_file(&path, &bytes)?;
         Ok(Self { file, path, settings, sequence })
     }
 
@@ -102,15 +104,17 @@ impl NodeFile {
     pub fn create(log: &Path, settings: Settings) -> Result<Self, Error> {
         let path = path_beside(log);
         let mut new = path.clone().into_os_string();
-        new.push(".new");
+        new.push(format!(".new-{}", std::process::id()));
         let new = PathBuf::from(new);
-        let options = OpenOptions::new().read(true).write(true).create(true).truncate(true).clone();
+        let options = OpenOptions::new().read(true).write(true).create_new(true).clone();
         let mut file = options.open(&new).map_err(Error::io("create", &new))?;
         let mut bytes = vec![0; 2 * PAGE as usize];
         bytes[..SLOT].copy_from_slice(&settings.to_slot(0));
-        let written = file.write_all(&bytes).and_then(|()| file.sync_all());
-        written.map_err(Error::io("write", &new))?;
-        std::fs::rename(&new, &path).map_err(Error::io("rename", &new))?;
+        let written = file.write_all(&bytes).and_then(|()| file.sync_all()).and_then(|()| std::fs::rename(&new, &path));
+        if let Err(source) = written {
+            let _ = std::fs::remove_file(&new);
+            return Err(Error::io("write", &new)(source));
+        }
         sync_folder(&path)?;
         Ok(Self { file, path, settings, sequence: 0 })
     }
@@ -121,7 +125,17 @@ impl NodeFile {
 
     /// Says that the log's first `known` bytes are on disk, and returns once that is on disk itself.
     pub fn set_known(&mut self, known: u64) -> Result<(), Error> {
-        let (settings, sequence) = (Settings { known, ..self.settings }, self.sequence + 1);
+        let sequence = self.sequence.checked_add(1).ok_or_else(|| Error::BadNodeFile { path: self.path.clone() })?;
+        self.put(Settings { known, ..self.settings }, sequence)
+    }
+
+    /// Has the newest slot on disk. A crash may have come after it was written and before it was synced; the next change goes over the
+    /// other slot, which must not be the only one on disk.
+    pub fn confirm(&mut self) -> Result<(), Error> {
+        self.put(self.settings, self.sequence)
+    }
+
+    fn put(&mut self, settings: Settings, sequence: u64) -> Result<(), Error> {
         let written = self.file.write_all_at(&settings.to_slot(sequence), sequence % 2 * PAGE).and_then(|()| self.file.sync_data());
         written.map_err(Error::io("write", &self.path))?;
         (self.settings, self.sequence) = (settings, sequence);
@@ -158,17 +172,21 @@ mod tests {
         bytes
     }
 
+    fn newest(bytes: &[u8]) -> Result<(u64, Settings), Error> {
+        Settings::of_file(Path::new("log.node"), bytes)
+    }
+
     #[test]
     fn the_newest_whole_slot_counts() {
         let old = Settings { known: 100, ..SETTINGS }.to_slot(6);
         let new = Settings { known: 200, ..SETTINGS }.to_slot(7);
-        assert_eq!(Settings::of_file(&slots(&old, &new)).unwrap().1.known, 200);
-        assert_eq!(Settings::of_file(&slots(&old, &[0; SLOT])).unwrap().1.known, 100);
+        assert_eq!(newest(&slots(&old, &new)).unwrap().1.known, 200);
+        assert_eq!(newest(&slots(&old, &[0; SLOT])).unwrap().1.known, 100);
         // A crash in the write of the newer slot leaves any of its bytes, before or after.
         for cut in 0..SLOT {
             let mut torn = Settings { known: 50, ..SETTINGS }.to_slot(5);
             torn[..cut].copy_from_slice(&new[..cut]);
-            let known = Settings::of_file(&slots(&old, &torn)).unwrap().1.known;
+            let known = newest(&slots(&old, &torn)).unwrap().1.known;
             assert_eq!(known, if torn == new { 200 } else { 100 }, "cut at {cut}");
         }
     }
@@ -186,12 +204,12 @@ mod tests {
     #[test]
     fn what_is_no_node_file() {
         for bytes in [&[][..], &[0; 64], &[0xff; 8192]] {
-            assert_eq!(Settings::of_file(bytes), Err("neither of its slots is whole"));
+            assert!(matches!(newest(bytes), Err(Error::BadNodeFile { .. })));
         }
         let mut other = SETTINGS.to_slot(0);
         other[8] = 2;
         let checksum = u64::from(crc32(&other[..56])).to_le_bytes();
         other[56..].copy_from_slice(&checksum);
-        assert_eq!(Settings::of_file(&slots(&other, &[0; SLOT])), Err("its version is not 1"));
+        assert!(matches!(newest(&slots(&other, &[0; SLOT])), Err(Error::NodeFileVersion { version: 2, .. })));
     }
 }

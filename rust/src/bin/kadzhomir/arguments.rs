@@ -1,5 +1,6 @@
 use crate::Failure;
 use kadzhomir::{Options, WalPosition};
+use std::ffi::OsString;
 use std::path::PathBuf;
 
 pub const HELP: &str = "\
@@ -10,16 +11,18 @@ These change nothing, and may be used while the node runs:
                    then where the log ends: END, ZEROS or TORN, the place, the
                    bytes behind it; or REFUSED and the number
   verify FILE      that last line alone, with the position of a refusal, and
-                   the length known to be on disk
+                   the length known to be on disk. The entries are read, and
+                   not replayed: recover does that
   recover FILE     what a node that opens this log would believe: counts, and
-                   the pending entries
+                   the pending entries; or why it would not open it
   dump FILE POS    the entry at a position, decoded
 
 These change the file. Stop the node first; keep a copy:
   cut FILE         cut the log behind its last whole entry. What is cut off goes
                    into a file of its own, FILE.aside-TIME-PLACE
-  cut FILE --at POS    the same at an earlier place: for a log that is damaged
-                   there. EVERYTHING BEHIND POS IS GIVEN UP, acknowledged or not
+  cut FILE --at POS    the same at an earlier place, an entry's end: for a log
+                   that is damaged there. EVERYTHING BEHIND POS IS GIVEN UP,
+                   acknowledged or not
   adopt FILE       make the node file of a log that has none
 
 Options:
@@ -59,8 +62,8 @@ const COMMANDS: [(&str, bool, &[&str]); 7] = [
 ];
 
 impl Arguments {
-    pub fn parse(mut words: impl Iterator<Item = String>) -> Result<Self, Failure> {
-        let command = words.next().ok_or_else(|| usage("no command was given"))?;
+    pub fn parse(mut words: impl Iterator<Item = OsString>) -> Result<Self, Failure> {
+        let command = words.next().ok_or_else(|| usage("no command was given"))?.to_string_lossy().into_owned();
         if ["help", "--help", "-h"].contains(&command.as_str()) {
             return Ok(Self { command: "help".into(), ..Self::default() });
         }
@@ -69,16 +72,17 @@ impl Arguments {
         let mut parsed = Self { command, ..Self::default() };
         let mut plain = Vec::new();
         while let Some(word) = words.next() {
-            if word == "--help" || word == "-h" {
+            let option = word.to_string_lossy().into_owned();
+            if option == "--help" || option == "-h" {
                 return Ok(Self { command: "help".into(), ..Self::default() });
             }
-            if !word.starts_with("--") {
+            if !option.starts_with("--") {
                 plain.push(word);
-            } else if options.contains(&word.as_str()) {
-                let value = words.next().ok_or_else(|| usage(&format!("{word} wants a number")))?;
-                parsed.set(&word, number(&value)?);
+            } else if options.contains(&option.as_str()) {
+                let value = words.next().ok_or_else(|| usage(&format!("{option} wants a number")))?;
+                parsed.set(&option, number(&value)?);
             } else {
-                return Err(usage(&format!("'{}' has no option {word}", parsed.command)));
+                return Err(usage(&format!("'{}' has no option {option}", parsed.command)));
             }
         }
         parsed.take(plain, *positioned)
@@ -94,7 +98,7 @@ impl Arguments {
         }
     }
 
-    fn take(mut self, plain: Vec<String>, positioned: bool) -> Result<Self, Failure> {
+    fn take(mut self, plain: Vec<OsString>, positioned: bool) -> Result<Self, Failure> {
         let wanted = if positioned { "a FILE and a POS" } else { "one FILE" };
         if plain.len() != 1 + usize::from(positioned) {
             return Err(usage(&format!("'{}' wants {wanted}", self.command)));
@@ -109,7 +113,7 @@ impl Arguments {
     /// What the log is to be opened with: of its node file, or given.
     pub fn options(&self, recorded: Option<&kadzhomir::Settings>) -> Result<Options, Failure> {
         let need = |given: Option<u64>, recorded: Option<u64>, name: &str| {
-            given.or(recorded).ok_or_else(|| usage(&format!("there is no node file beside this log: give {name}")))
+            given.or(recorded).ok_or_else(|| usage(&format!("it is not known what this log was written with: give {name}")))
         };
         let committee = need(self.committee, recorded.map(|s| s.committee_size), "--committee")?;
         let own = need(self.own, recorded.map(|s| s.own), "--own")?;
@@ -122,6 +126,7 @@ fn usage(what: &str) -> Failure {
     Failure::Usage(what.to_string())
 }
 
-fn number(word: &str) -> Result<u64, Failure> {
-    word.parse().map_err(|_| usage(&format!("'{word}' is no number")))
+fn number(word: &OsString) -> Result<u64, Failure> {
+    let number = word.to_str().and_then(|word| word.parse().ok());
+    number.ok_or_else(|| usage(&format!("'{}' is no number", word.to_string_lossy())))
 }

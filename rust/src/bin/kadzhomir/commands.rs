@@ -1,5 +1,5 @@
 use crate::arguments::{Arguments, HELP};
-use crate::{dump, Failure, Status};
+use crate::{dump, say, Failure, Status};
 use kadzhomir::{Cut, Entries, Error, Log, Look, Node, Pending, Plan, RefusedAt, WalPosition};
 use std::io::{self, IsTerminal, Write};
 use std::time::{Duration, Instant};
@@ -21,6 +21,15 @@ pub fn run(arguments: &Arguments, out: &mut impl Write) -> Result<Status, Failur
 
 fn look(arguments: &Arguments) -> Result<Look, Failure> {
     Ok(Look::at(&arguments.file, arguments.exponent)?)
+}
+
+/// Where a listing begins: within the log.
+fn from(arguments: &Arguments, look: &Look) -> Result<WalPosition, Failure> {
+    let from = arguments.from.unwrap_or_default();
+    if from.0 > look.log().used() {
+        return Err(Failure::Usage(format!("--from {from} is past the log's end, {}", look.log().used())));
+    }
+    Ok(from)
 }
 
 // ---- list and verify
@@ -50,7 +59,7 @@ fn walk(log: &Log<Vec<u8>>, from: WalPosition, mut each: impl FnMut(&kadzhomir::
 fn list(arguments: &Arguments, out: &mut impl Write) -> Result<Status, Failure> {
     let look = look(arguments)?;
     let line = |e: &kadzhomir::Entry| writeln!(out, "{} {} {} {:08x}", e.position, e.tag, e.len, e.checksum);
-    let ending = walk(look.log(), arguments.from.unwrap_or_default(), line)?;
+    let ending = walk(look.log(), from(arguments, &look)?, line)?;
     if let Ending::Refused(RefusedAt { refusal, .. }) = ending {
         writeln!(out, "REFUSED {}", refusal.number())?;
         return Ok(Status::Damaged);
@@ -96,7 +105,7 @@ fn recover(arguments: &Arguments, out: &mut impl Write) -> Result<Status, Failur
     let look = look(arguments)?;
     let options = arguments.options(look.settings())?;
     if look.log().used() >= LONG && io::stderr().is_terminal() {
-        eprintln!("recovering {} bytes ..", look.log().used());
+        say(format_args!("recovering {} bytes ..", look.log().used()));
     }
     match look.plan(&options) {
         Ok(plan) => believed(&plan, out),
@@ -186,7 +195,7 @@ impl Progress {
     fn tell(&mut self, done: u64) {
         let now = Instant::now();
         if self.next.is_some_and(|next| next <= now) {
-            eprint!("\r{:3} % of {} bytes", done * 100 / self.all, self.all);
+            let _ = write!(io::stderr(), "\r{:3} % of {} bytes", done / (self.all / 100).max(1), self.all);
             self.next = Some(now + Duration::from_millis(200));
             self.told = true;
         }
@@ -196,7 +205,7 @@ impl Progress {
 impl Drop for Progress {
     fn drop(&mut self) {
         if self.told {
-            eprint!("\r{:40}\r", "");
+            let _ = write!(io::stderr(), "\r{:40}\r", "");
         }
     }
 }

@@ -53,7 +53,7 @@ impl From<io::Error> for Failure {
 }
 
 fn main() -> ExitCode {
-    let arguments = match Arguments::parse(std::env::args().skip(1)) {
+    let arguments = match Arguments::parse(std::env::args_os().skip(1)) {
         Ok(arguments) => arguments,
         Err(failure) => return fail(failure).into(),
     };
@@ -65,26 +65,32 @@ fn main() -> ExitCode {
 fn fail(failure: Failure) -> Status {
     match failure {
         Failure::Usage(what) => {
-            eprintln!("kadzhomir: {what}\n\n{HELP}");
+            say(format_args!("{what}\n\n{HELP}"));
             Status::Usage
         }
         Failure::Log(error) => {
-            eprintln!("kadzhomir: {error}");
+            say(format_args!("{error}"));
             status_of(&error)
         }
         // Nobody reads any more, as with `| head`.
         Failure::Output(error) if error.kind() == io::ErrorKind::BrokenPipe => Status::File,
         Failure::Output(error) => {
-            eprintln!("kadzhomir: cannot write: {error}");
+            say(format_args!("cannot write: {error}"));
             Status::File
         }
     }
 }
 
+/// A line on standard error, where anybody reads it.
+pub fn say(line: std::fmt::Arguments) {
+    let _ = writeln!(io::stderr(), "kadzhomir: {line}");
+}
+
 fn status_of(error: &Error) -> Status {
     match error {
         Error::NoExponent => Status::Usage,
-        Error::Io { .. } | Error::Locked { .. } | Error::Exists { .. } | Error::NoNodeFile { .. } => Status::File,
+        Error::Io { .. } | Error::Locked { .. } | Error::Exists { .. } => Status::File,
+        Error::NoNodeFile { .. } | Error::NodeFileVersion { .. } => Status::File,
         _ => Status::Damaged,
     }
 }

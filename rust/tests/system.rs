@@ -117,6 +117,15 @@ fn a_full_disk() {
     answer.unwrap();
 }
 
+/// Appends some bytes, or as many as there is room for.
+fn append(path: &Path, bytes: Option<&[u8]>) {
+    let mut file = fs::File::options().append(true).open(path).unwrap();
+    match bytes {
+        Some(bytes) => file.write_all(bytes).unwrap(),
+        None => while file.write(&[1; 512]).is_ok() {},
+    }
+}
+
 fn fill(disk: &Path) {
     let (path, ballast) = (disk.join("log"), disk.join("ballast"));
     fs::write(&ballast, [1; 32768]).unwrap();
@@ -135,7 +144,11 @@ fn fill(disk: &Path) {
     assert!(matches!(node.sync(), Err(Error::Failed)));
     assert!(node.log().entries().filter(|e| e.is_ok()).count() >= synced);
     drop(node);
-    // Still full: what was torn cannot be set aside, so that nothing is cut.
+    // Torn, and still full: what was torn cannot be set aside, so that nothing is cut.
+    append(&ballast, None);
+    fs::File::options().write(true).open(&ballast).unwrap().set_len(28_672).unwrap();
+    append(&path, Some(b"torn"));
+    append(&ballast, None);
     let before = fs::read(&path).unwrap();
     let error = Node::open(&path, &options()).unwrap_err();
     assert!(matches!(error, Error::Io { .. }), "{error}");

@@ -51,7 +51,7 @@ module _ (size own : ℕ) (lent : Lent) {word : Stop} {e : ℕ} {l : List Replay
   unfolding replayedFrom concluded
   replayed-so w read = replayed-whole size own lent w ∙ rw (read .scans, read .ends) decoded-so
 
-  recovered-so : (k : ℕ) (s : List ℕ) (used : ℕ) → Sound k used (length s) → committeeCheck size own ≡ 0
+  pub recovered-so : (k : ℕ) (s : List ℕ) (used : ℕ) → Sound k used (length s) → committeeCheck size own ≡ 0
       → Replayed size own lent (walkAt k s used 0 0) word e l → recover k s used size own lent ≡ recovered word e l
   recovered-so k s used sound committee read =
       recover-is k s used sound size own lent

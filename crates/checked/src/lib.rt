@@ -1,0 +1,2 @@
+// A node that logs by its checked calls alone never makes a log that recovery refuses. There is no code: specs/ has the
+// statement, proofs/ the proofs, over the contracts of append, insert and recovery.

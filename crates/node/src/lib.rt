@@ -7,9 +7,14 @@ ghost use mathlib.Core.Path.{_≡_};
 ghost use Prim.Native.Nat.{_+_, _*_, _/_};
 ghost use lib.ListN.{length};
 ghost use Rattle.laws.specs.Bytes.{zeros};
-ghost use Rattle.types.specs.Records.{block, reference as parsed};
+ghost use Rattle.checksum.specs.Crc32.{crc32};
+ghost use Rattle.bincode.specs.Answers.{partAnswer};
+ghost use Rattle.types.specs.Records.{block, reference as parsed, statement, payload};
 ghost use Rattle.types.specs.Answers.{referenceAnswer};
+ghost use Rattle.statements.specs.Answers.{statementAnswer};
 ghost use Rattle.blocks.specs.Answers.{blockAnswer};
+ghost use Rattle.commits.specs.Records.{ownBlock, commitData, commit};
+ghost use Rattle.commits.specs.Answers.{ownBlockAnswer, commitDataAnswer, commitAnswer};
 ghost use Rattle.wal_reader.specs.Answers.{readAnswer};
 ghost use Rattle.wal.specs.Answers.{walkStepAnswer, walkAnswer};
 ghost use Rattle.replay_log.specs.Answers.{tables};
@@ -22,11 +27,15 @@ ghost use Rattle.transaction.specs.Transaction.{getTransaction};
 ghost use Rattle.linked.specs.Linked.{linkedAnswer};
 ghost use Rattle.node_store.specs.Stores.{referenceOf, storeOf, recoveryNumber, resumedUsed, openedNumber, openedAfter};
 ghost use Rattle.node_log.specs.Answers.{Reads, Steps, DecodesBlock, DecodesReference};
+ghost use Rattle.node_records.specs.Answers.{DecodesStatement, DecodesPayload, DecodesOwnBlock, DecodesCommit, DecodesCommitData};
 ghost use Rattle.node_answers.specs.Answers.{Tells, Cleans, Shows, Links};
 ghost use Rattle.node.specs.Calls.{GivesWalk, GivesRecovery, GivesAppend, GivesInsert, GivesLookup};
 use types::TransactionLocator;
 use wal::WalPosition;
 use wal::WalWriter;
+
+// 0.2.0: major * 65536 + minor * 256 + patch.
+pub const VERSION: u32 = 0x0000_0200;
 
 // Appends an entry to a log of `used` bytes, and answers the refusal's number, 0 where there is none.
 #[no_mangle]
@@ -483,4 +492,70 @@ pub extern "C" fn kadzhomir_include_at(
 {
     let d = types::include_at(bytes, place, i);
     node_log::put_decoded(answer, d)
+}
+
+// Decodes the own block at a place: the words of its block, and the next entry.
+#[no_mangle]
+pub extern "C" fn kadzhomir_decode_own_block(bytes: &[u8], at: usize, answer: &mut [u64; 16]) -> u8
+    ensures { λ r. ⌜ DecodesOwnBlock (ownBlockAnswer at (ownBlock (now (bytes .entry)) at)) r (now (answer .exit)) ⌝ }
+{
+    let d = commits::decode_own_block(bytes, at);
+    node_records::put_own_block(answer, d)
+}
+
+// Decodes the statement at a place.
+#[no_mangle]
+pub extern "C" fn kadzhomir_decode_statement(bytes: &[u8], at: usize, answer: &mut [u64; 28]) -> u8
+    ensures { λ r. ⌜ DecodesStatement (statementAnswer (statement (now (bytes .entry)) at)) r (now (answer .exit)) ⌝ }
+{
+    let d = statements::decode_statement(bytes, at);
+    node_records::put_statement(answer, d)
+}
+
+// Decodes the payload at a place: statements behind their number.
+#[no_mangle]
+pub extern "C" fn kadzhomir_decode_payload(bytes: &[u8], at: usize, answer: &mut [u64; 4]) -> u8
+    ensures { λ r. ⌜ DecodesPayload (partAnswer at (payload (now (bytes .entry)) at)) r (now (answer .exit)) ⌝ }
+{
+    let d = commits::decode_payload(bytes, at);
+    node_records::put_payload(answer, d)
+}
+
+// Decodes the commit at a place: the elements of its list behind their number, and the committed state.
+#[no_mangle]
+pub extern "C" fn kadzhomir_decode_commit(bytes: &[u8], at: usize, answer: &mut [u64; 6]) -> u8
+    ensures { λ r. ⌜ DecodesCommit (commitAnswer at (commit (now (bytes .entry)) at)) r (now (answer .exit)) ⌝ }
+{
+    let d = commits::decode_commit(bytes, at);
+    node_records::put_commit(answer, d)
+}
+
+// Decodes an element of a commit's list at a place: a leader and its sub-dag.
+#[no_mangle]
+pub extern "C" fn kadzhomir_decode_commit_data(
+    bytes: &[u8],
+    at: usize,
+    answer: &mut [u64; 10],
+) -> u8
+    ensures { λ r. ⌜ DecodesCommitData (commitDataAnswer at (commitData (now (bytes .entry)) at))
+        r (now (answer .exit)) ⌝ }
+{
+    let d = commits::decode_commit_data(bytes, at);
+    node_records::put_commit_data(answer, d)
+}
+
+// The CRC-32 of some bytes.
+#[no_mangle]
+pub extern "C" fn kadzhomir_crc32(bytes: &[u8]) -> u32
+    ensures { λ r. ⌜ r ≡ crc32 (now (bytes .entry)) ⌝ }
+{
+    checksum::hash(bytes)
+}
+
+// The library's version, as VERSION has it.
+#[no_mangle]
+pub extern "C" fn kadzhomir_version() -> u32
+    ensures { λ r. ⌜ r ≡ 512 ⌝ }
+{
+    VERSION
 }

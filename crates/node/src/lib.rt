@@ -4,17 +4,22 @@
 // to say what a short one gets. A store is words that the caller keeps. Each call answers the refusal's number,
 // 0 where there is none.
 ghost use mathlib.Core.Path.{_≡_};
+ghost use mathlib.Core.Option.{some};
 ghost use Prim.Native.Nat.{_+_, _*_, _/_};
 ghost use lib.ListN.{length};
 ghost use Rattle.laws.specs.Bytes.{zeros};
+ghost use Rattle.laws.specs.Parse.{many};
 ghost use Rattle.checksum.specs.Crc32.{crc32};
 ghost use Rattle.bincode.specs.Answers.{partAnswer};
-ghost use Rattle.types.specs.Records.{block, reference as parsed, statement, payload};
+ghost use Rattle.types.specs.Records.{reference as parsedReference, referenceBytes, statement, statementBytes, share, voteRange, block as parsedBlock, blockBytes, payload, payloadBytes};
 ghost use Rattle.types.specs.Answers.{referenceAnswer};
 ghost use Rattle.statements.specs.Answers.{statementAnswer};
 ghost use Rattle.blocks.specs.Answers.{blockAnswer};
 ghost use Rattle.commits.specs.Records.{ownBlock, commitData, commit};
 ghost use Rattle.commits.specs.Answers.{ownBlockAnswer, commitDataAnswer, commitAnswer};
+ghost use Rattle.encode_blocks.specs.Whole.{whole, laidOut};
+ghost use Rattle.encode_blocks.specs.Blocks.{blockFrom};
+ghost use Rattle.encode_commits.specs.Commits.{ownBlockWith, commitDataWith, commitWith};
 ghost use Rattle.wal_reader.specs.Answers.{readAnswer};
 ghost use Rattle.wal.specs.Answers.{walkStepAnswer, walkAnswer};
 ghost use Rattle.replay_log.specs.Answers.{tables};
@@ -27,7 +32,8 @@ ghost use Rattle.transaction.specs.Transaction.{getTransaction};
 ghost use Rattle.linked.specs.Linked.{linkedAnswer};
 ghost use Rattle.node_store.specs.Stores.{referenceOf, storeOf, recoveryNumber, resumedUsed, openedNumber, openedAfter};
 ghost use Rattle.node_log.specs.Answers.{Reads, Steps, DecodesBlock, DecodesReference};
-ghost use Rattle.node_records.specs.Answers.{DecodesStatement, DecodesPayload, DecodesOwnBlock, DecodesCommit, DecodesCommitData};
+ghost use Rattle.node_records.specs.Answers.{DecodesStatement, DecodesPayload, DecodesOwnBlock, DecodesCommit, DecodesCommitData, EncodesWords};
+ghost use Rattle.node_records.specs.Given.{locatorOf, rangeOf, voteGiven, voteWith, blockFieldsOf};
 ghost use Rattle.node_answers.specs.Answers.{Tells, Cleans, Shows, Links};
 ghost use Rattle.node.specs.Calls.{GivesWalk, GivesRecovery, GivesAppend, GivesInsert, GivesLookup};
 use types::TransactionLocator;
@@ -473,7 +479,7 @@ pub extern "C" fn kadzhomir_linked(
 // Decodes the block at a place.
 #[no_mangle]
 pub extern "C" fn kadzhomir_decode_block(bytes: &[u8], at: usize, answer: &mut [u64; 15]) -> u8
-    ensures { λ r. ⌜ DecodesBlock (blockAnswer at (block (now (bytes .entry)) at)) r (now (answer .exit)) ⌝ }
+    ensures { λ r. ⌜ DecodesBlock (blockAnswer at (parsedBlock (now (bytes .entry)) at)) r (now (answer .exit)) ⌝ }
 {
     let d = blocks::decode_block(bytes, at);
     node_log::put_block(answer, d)
@@ -487,7 +493,7 @@ pub extern "C" fn kadzhomir_include_at(
     i: usize,
     answer: &mut [u64; 8],
 ) -> u8
-    ensures { λ r. ⌜ DecodesReference (referenceAnswer (parsed (now (bytes .entry)) (place + 56 * i)))
+    ensures { λ r. ⌜ DecodesReference (referenceAnswer (parsedReference (now (bytes .entry)) (place + 56 * i)))
         r (now (answer .exit)) ⌝ }
 {
     let d = types::include_at(bytes, place, i);
@@ -542,6 +548,165 @@ pub extern "C" fn kadzhomir_decode_commit_data(
 {
     let d = commits::decode_commit_data(bytes, at);
     node_records::put_commit_data(answer, d)
+}
+
+// Encodes a reference.
+#[no_mangle]
+pub extern "C" fn kadzhomir_encode_reference(
+    out: &mut [u8],
+    at: usize,
+    reference: &[u64; 6],
+    answer: &mut [u64; 2],
+) -> u8
+    ensures { λ r. ⌜ EncodesWords (now (out .entry)) at (some (referenceBytes (referenceOf (now (reference .entry)))))
+        r (now (answer .exit)) (now (out .exit)) ⌝ }
+{
+    let x = node_store::reference_at(reference, 0);
+    let encoded = encode::encode_reference(out, at, x);
+    node_records::put_encoded(answer, encoded)
+}
+
+// Encodes the statement Share of some bytes.
+#[no_mangle]
+pub extern "C" fn kadzhomir_encode_share(
+    out: &mut [u8],
+    at: usize,
+    bytes: &[u8],
+    answer: &mut [u64; 2],
+) -> u8
+    ensures { λ r. ⌜ EncodesWords (now (out .entry)) at (some (statementBytes (share (now (bytes .entry)))))
+        r (now (answer .exit)) (now (out .exit)) ⌝ }
+{
+    let encoded = encode::encode_share(out, at, bytes);
+    node_records::put_encoded(answer, encoded)
+}
+
+// Encodes the statement Vote: kind 0 accepts, 1 rejects, 2 rejects and names another locator.
+#[no_mangle]
+pub extern "C" fn kadzhomir_encode_vote(
+    out: &mut [u8],
+    at: usize,
+    locator: &[u64; 7],
+    kind: u64,
+    other: &[u64; 7],
+    answer: &mut [u64; 2],
+) -> u8
+    ensures { λ r. ⌜ EncodesWords (now (out .entry)) at
+        (laidOut (voteWith (locatorOf (now (locator .entry)))) (voteGiven kind (locatorOf (now (other .entry)))))
+        r (now (answer .exit)) (now (out .exit)) ⌝ }
+{
+    let encoded = node_records::encode_vote(out, at, locator, kind, other);
+    node_records::put_encoded(answer, encoded)
+}
+
+// Encodes the statement VoteRange.
+#[no_mangle]
+pub extern "C" fn kadzhomir_encode_vote_range(
+    out: &mut [u8],
+    at: usize,
+    range: &[u64; 8],
+    answer: &mut [u64; 2],
+) -> u8
+    ensures { λ r. ⌜ EncodesWords (now (out .entry)) at
+        (some (statementBytes (voteRange (rangeOf (now (range .entry))))))
+        r (now (answer .exit)) (now (out .exit)) ⌝ }
+{
+    let x = node_records::range_of(range);
+    let encoded = encode::encode_vote_range(out, at, x);
+    node_records::put_encoded(answer, encoded)
+}
+
+// Encodes a payload, of statements that are encoded one behind the other.
+#[no_mangle]
+pub extern "C" fn kadzhomir_encode_payload(
+    out: &mut [u8],
+    at: usize,
+    statements: &[u8],
+    count: u64,
+    answer: &mut [u64; 2],
+) -> u8
+    ensures { λ r. ⌜ EncodesWords (now (out .entry)) at
+        (laidOut payloadBytes (whole (many statement count) (now (statements .entry))))
+        r (now (answer .exit)) (now (out .exit)) ⌝ }
+{
+    let encoded = encode_blocks::encode_payload(out, at, statements, count);
+    node_records::put_encoded(answer, encoded)
+}
+
+// Encodes a block, of its fields and of includes and statements that are encoded one behind the other.
+#[no_mangle]
+pub extern "C" fn kadzhomir_encode_block(
+    out: &mut [u8],
+    at: usize,
+    block: &[u64; 11],
+    signature: &[u8; 64],
+    includes: &[u8],
+    statements: &[u8],
+    answer: &mut [u64; 2],
+) -> u8
+    ensures { λ r. ⌜ EncodesWords (now (out .entry)) at
+        (laidOut blockBytes (blockFrom (blockFieldsOf (now (block .entry)) (now (signature .entry)))
+        (now (includes .entry)) (now (statements .entry))))
+        r (now (answer .exit)) (now (out .exit)) ⌝ }
+{
+    let fields = node_records::block_fields(block, signature);
+    let encoded = encode_blocks::encode_block(out, at, fields, includes, statements);
+    node_records::put_encoded(answer, encoded)
+}
+
+// Encodes an own block: the next entry, and a block that is encoded already.
+#[no_mangle]
+pub extern "C" fn kadzhomir_encode_own_block(
+    out: &mut [u8],
+    at: usize,
+    next_entry: u64,
+    block: &[u8],
+    answer: &mut [u64; 2],
+) -> u8
+    ensures { λ r. ⌜ EncodesWords (now (out .entry)) at
+        (laidOut (ownBlockWith «next_entry») (whole parsedBlock (now (block .entry))))
+        r (now (answer .exit)) (now (out .exit)) ⌝ }
+{
+    let encoded = encode_commits::encode_own_block(out, at, WalPosition(next_entry), block);
+    node_records::put_encoded(answer, encoded)
+}
+
+// Encodes an element of a commit's list: a leader and its sub-dag, references that are encoded one behind the other.
+#[no_mangle]
+pub extern "C" fn kadzhomir_encode_commit_data(
+    out: &mut [u8],
+    at: usize,
+    leader: &[u64; 6],
+    sub_dag: &[u8],
+    count: u64,
+    answer: &mut [u64; 2],
+) -> u8
+    ensures { λ r. ⌜ EncodesWords (now (out .entry)) at
+        (laidOut (commitDataWith (referenceOf (now (leader .entry))))
+        (whole (many parsedReference count) (now («sub_dag» .entry))))
+        r (now (answer .exit)) (now (out .exit)) ⌝ }
+{
+    let x = node_store::reference_at(leader, 0);
+    let encoded = encode_commits::encode_commit_data(out, at, x, sub_dag, count);
+    node_records::put_encoded(answer, encoded)
+}
+
+// Encodes a commit, of the elements of its list, encoded one behind the other, and of the committed state.
+#[no_mangle]
+pub extern "C" fn kadzhomir_encode_commit(
+    out: &mut [u8],
+    at: usize,
+    commits: &[u8],
+    count: u64,
+    state: &[u8],
+    answer: &mut [u64; 2],
+) -> u8
+    ensures { λ r. ⌜ EncodesWords (now (out .entry)) at
+        (laidOut (commitWith (now (state .entry))) (whole (many commitData count) (now (commits .entry))))
+        r (now (answer .exit)) (now (out .exit)) ⌝ }
+{
+    let encoded = encode_commits::encode_commit(out, at, commits, count, state);
+    node_records::put_encoded(answer, encoded)
 }
 
 // The CRC-32 of some bytes.

@@ -2,7 +2,7 @@
 // of elements, an array of fixed length as a pointer, and what a call may write overlaps nothing else; no
 // compiler holds a caller in C to that. Fixed answers, stores and references are arrays, so that no contract has
 // to say what a short one gets. A store is words that the caller keeps. Each call answers the refusal's number,
-// 0 where there is none.
+// 0 where there is none; one that decodes or encodes a record refuses nothing, and its words say what it found.
 ghost use mathlib.Core.Path.{_≡_};
 ghost use mathlib.Core.Option.{some};
 ghost use Prim.Native.Nat.{_+_, _*_, _/_};
@@ -479,7 +479,8 @@ pub extern "C" fn kadzhomir_linked(
 // Decodes the block at a place.
 #[no_mangle]
 pub extern "C" fn kadzhomir_decode_block(bytes: &[u8], at: usize, answer: &mut [u64; 15]) -> u8
-    ensures { λ r. ⌜ DecodesBlock (blockAnswer at (parsedBlock (now (bytes .entry)) at)) r (now (answer .exit)) ⌝ }
+    ensures { λ r. ⌜ DecodesBlock (blockAnswer at (parsedBlock (now (bytes .entry)) at))
+        r (now (answer .exit)) ⌝ }
 {
     let d = blocks::decode_block(bytes, at);
     node_log::put_block(answer, d)
@@ -503,7 +504,8 @@ pub extern "C" fn kadzhomir_include_at(
 // Decodes the own block at a place: the words of its block, and the next entry.
 #[no_mangle]
 pub extern "C" fn kadzhomir_decode_own_block(bytes: &[u8], at: usize, answer: &mut [u64; 16]) -> u8
-    ensures { λ r. ⌜ DecodesOwnBlock (ownBlockAnswer at (ownBlock (now (bytes .entry)) at)) r (now (answer .exit)) ⌝ }
+    ensures { λ r. ⌜ DecodesOwnBlock (ownBlockAnswer at (ownBlock (now (bytes .entry)) at))
+        r (now (answer .exit)) ⌝ }
 {
     let d = commits::decode_own_block(bytes, at);
     node_records::put_own_block(answer, d)
@@ -512,7 +514,8 @@ pub extern "C" fn kadzhomir_decode_own_block(bytes: &[u8], at: usize, answer: &m
 // Decodes the statement at a place.
 #[no_mangle]
 pub extern "C" fn kadzhomir_decode_statement(bytes: &[u8], at: usize, answer: &mut [u64; 28]) -> u8
-    ensures { λ r. ⌜ DecodesStatement (statementAnswer (statement (now (bytes .entry)) at)) r (now (answer .exit)) ⌝ }
+    ensures { λ r. ⌜ DecodesStatement (statementAnswer (statement (now (bytes .entry)) at))
+        r (now (answer .exit)) ⌝ }
 {
     let d = statements::decode_statement(bytes, at);
     node_records::put_statement(answer, d)
@@ -550,7 +553,8 @@ pub extern "C" fn kadzhomir_decode_commit_data(
     node_records::put_commit_data(answer, d)
 }
 
-// Encodes a reference.
+// Encodes a reference at a place of `out`, as each encoder below does: what does not fit, or is no record, leaves
+// `out` as it was.
 #[no_mangle]
 pub extern "C" fn kadzhomir_encode_reference(
     out: &mut [u8],
@@ -558,7 +562,8 @@ pub extern "C" fn kadzhomir_encode_reference(
     reference: &[u64; 6],
     answer: &mut [u64; 2],
 ) -> u8
-    ensures { λ r. ⌜ EncodesWords (now (out .entry)) at (some (referenceBytes (referenceOf (now (reference .entry)))))
+    ensures { λ r. ⌜ EncodesWords (now (out .entry)) at
+        (some (referenceBytes (referenceOf (now (reference .entry)))))
         r (now (answer .exit)) (now (out .exit)) ⌝ }
 {
     let x = node_store::reference_at(reference, 0);
@@ -592,7 +597,8 @@ pub extern "C" fn kadzhomir_encode_vote(
     answer: &mut [u64; 2],
 ) -> u8
     ensures { λ r. ⌜ EncodesWords (now (out .entry)) at
-        (laidOut (voteWith (locatorOf (now (locator .entry)))) (voteGiven kind (locatorOf (now (other .entry)))))
+        (laidOut (voteWith (locatorOf (now (locator .entry))))
+        (voteGiven kind (locatorOf (now (other .entry)))))
         r (now (answer .exit)) (now (out .exit)) ⌝ }
 {
     let encoded = node_records::encode_vote(out, at, locator, kind, other);
@@ -671,7 +677,8 @@ pub extern "C" fn kadzhomir_encode_own_block(
     node_records::put_encoded(answer, encoded)
 }
 
-// Encodes an element of a commit's list: a leader and its sub-dag, references that are encoded one behind the other.
+// Encodes an element of a commit's list: a leader and its sub-dag, of references that are encoded one behind the
+// other.
 #[no_mangle]
 pub extern "C" fn kadzhomir_encode_commit_data(
     out: &mut [u8],
@@ -717,7 +724,7 @@ pub extern "C" fn kadzhomir_crc32(bytes: &[u8]) -> u32
     checksum::hash(bytes)
 }
 
-// The library's version, as VERSION has it.
+// The library's version.
 #[no_mangle]
 pub extern "C" fn kadzhomir_version() -> u32
     ensures { λ r. ⌜ r ≡ 512 ⌝ }

@@ -49,8 +49,8 @@ voteWords v = voteKindWord (v .kind) ∷ locatorWords (v .other)
 unfoldable pub rangeWords : TransactionLocatorRange → List ℕ
 rangeWords r = keyWords (r .block) ++ (r .«offset_start_inclusive» ∷ r .«offset_end_exclusive» ∷ [])
 
--- of a statement: whether it decodes, its kind, the place and the number of a Share's bytes, a Vote's locator and vote, a VoteRange's range,
--- and the end. 28 words, all zero where it does not decode (`no-statement-words`).
+-- of a statement: whether it decodes, its kind, the place and the number of a Share's bytes, a Vote's locator and vote, a VoteRange's
+-- range, and the end. 28 words, all zero where it does not decode (`no-statement-words`).
 unfoldable pub statementWords : DecodedStatement → List ℕ
 statementWords d =
     (flag (d .ok) ∷ statementKindWord (d .statement .kind) ∷ d .statement .start ∷ d .statement .count ∷ [])
@@ -106,8 +106,8 @@ encodedWords (End end) = 1 ∷ end ∷ []
 encodedWords Malformed = 0 ∷ 0 ∷ []
 encodedWords NoRoom = 2 ∷ 0 ∷ []
 
--- An encoder is given the bytes to write at a place, or none where what its caller gave is no record. It answers the number n, 0 always, and
--- the words a, and leaves `after` in the buffer `out` that it is lent (`Encodes` of the crate encode, with the answer as words).
+-- An encoder is given the bytes to write at a place, or none where what its caller gave is no record. It answers the number n, which is
+-- always 0, and the words a, and leaves `after` in the buffer `out` that it is lent: `Encodes` of the crate encode, with the answer as words.
 pub record EncodesWords (out : List ℕ) (at : ℕ) (v : Option (List ℕ)) (n : ℕ) (a after : List ℕ) : Type 0 where
   pub number : n ≡ 0
   pub words : a ≡ encodedWords (answerAt out at v)

@@ -11,7 +11,7 @@ use Rattle.types.specs.Records.{VoteValue, accept, reject, voteOn, statementByt
 use Rattle.encode_blocks.specs.declared.BlockFields.{BlockFields}
 use Rattle.node_store.specs.Stores.{flagged, referenceOf}
 
--- the locator in seven words, and the range in eight: what `locatorWords` and `rangeWords` put there
+-- the locator in seven words, and the range in eight: what `locatorWords` and `rangeWords` put there (proofs/Encoding.antt)
 unfoldable pub locatorOf : List ℕ → TransactionLocator
 locatorOf w = record { block = referenceOf w; offset = getD w 6 0 }
 

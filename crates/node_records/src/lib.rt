@@ -1,5 +1,5 @@
-// What each call of the crate node that decodes or encodes a record answers, put into the words that its caller lends
-// (blocks and references that are decoded: node_log); and the records that a caller gives an encoder as words.
+// What each call of the crate node that decodes or encodes a record answers, put into the words that its caller
+// lends (a decoded block or reference: node_log); and the records that a caller gives an encoder as words.
 ghost use mathlib.Core.Path.{_≡_};
 ghost use mathlib.Core.Option.{some};
 ghost use Prim.Native.Nat.{_≤_};
@@ -263,8 +263,8 @@ pub fn encode_vote(
     other: &[u64; 7],
 ) -> Encoded
     ensures { λ r. ⌜ Encodes (now (out .entry)) at
-        (laidOut (voteWith (locatorOf (now (locator .entry)))) (voteGiven kind (locatorOf (now (other .entry))))) r
-        (now (out .exit)) ⌝ }
+        (laidOut (voteWith (locatorOf (now (locator .entry))))
+        (voteGiven kind (locatorOf (now (other .entry))))) r (now (out .exit)) ⌝ }
 {
     if 2 < kind {
         return Encoded::Malformed;

@@ -1,5 +1,6 @@
 -- `node_records::encode_vote` meets its contract: a kind that there is makes a vote. Assumes nothing.
 use borrow.Author.Needs.{needs}
+use native.Mathlib.Omega.{arith}
 use Rattle.encode.proofs.Encodings.{malformed}
 use Rattle.node_records.specs.Given.{locatorOf}
 use Rattle.node_records.proofs.Encoding.{no-vote}
@@ -9,7 +10,7 @@ use Rattle.node_records.proofs.encode_vote.Tie as tie
 returns : tie.Need-returns
 returns c =
     let a = c .before .before .args in
-    rw (no-vote (a .kind) (locatorOf (a .other .now)) (c .if1 .taken)) (malformed (a .out .now) (a .at))
+    rw (no-vote (a .kind) (locatorOf (a .other .now)) (omega arith)) (malformed (a .out .now) (a .at))
 
 locator-of-requires : tie.Need-locator-of-requires
 locator-of-requires c κs = search needs

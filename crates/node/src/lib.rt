@@ -2,14 +2,24 @@
 // of elements, an array of fixed length as a pointer, and what a call may write overlaps nothing else; no
 // compiler holds a caller in C to that. Fixed answers, stores and references are arrays, so that no contract has
 // to say what a short one gets. A store is words that the caller keeps. Each call answers the refusal's number,
-// 0 where there is none.
+// 0 where there is none; one that decodes or encodes a record refuses nothing, and its words say what it found.
 ghost use mathlib.Core.Path.{_≡_};
+ghost use mathlib.Core.Option.{some};
 ghost use Prim.Native.Nat.{_+_, _*_, _/_};
 ghost use lib.ListN.{length};
 ghost use Rattle.laws.specs.Bytes.{zeros};
-ghost use Rattle.types.specs.Records.{block, reference as parsed};
+ghost use Rattle.laws.specs.Parse.{many};
+ghost use Rattle.checksum.specs.Crc32.{crc32};
+ghost use Rattle.bincode.specs.Answers.{partAnswer};
+ghost use Rattle.types.specs.Records.{reference as parsedReference, referenceBytes, statement, statementBytes, share, voteRange, block as parsedBlock, blockBytes, payload, payloadBytes};
 ghost use Rattle.types.specs.Answers.{referenceAnswer};
+ghost use Rattle.statements.specs.Answers.{statementAnswer};
 ghost use Rattle.blocks.specs.Answers.{blockAnswer};
+ghost use Rattle.commits.specs.Records.{ownBlock, commitData, commit};
+ghost use Rattle.commits.specs.Answers.{ownBlockAnswer, commitDataAnswer, commitAnswer};
+ghost use Rattle.encode_blocks.specs.Whole.{whole, laidOut};
+ghost use Rattle.encode_blocks.specs.Blocks.{blockFrom};
+ghost use Rattle.encode_commits.specs.Commits.{ownBlockWith, commitDataWith, commitWith};
 ghost use Rattle.wal_reader.specs.Answers.{readAnswer};
 ghost use Rattle.wal.specs.Answers.{walkStepAnswer, walkAnswer};
 ghost use Rattle.replay_log.specs.Answers.{tables};
@@ -22,11 +32,16 @@ ghost use Rattle.transaction.specs.Transaction.{getTransaction};
 ghost use Rattle.linked.specs.Linked.{linkedAnswer};
 ghost use Rattle.node_store.specs.Stores.{referenceOf, storeOf, recoveryNumber, resumedUsed, openedNumber, openedAfter};
 ghost use Rattle.node_log.specs.Answers.{Reads, Steps, DecodesBlock, DecodesReference};
+ghost use Rattle.node_records.specs.Answers.{DecodesStatement, DecodesPayload, DecodesOwnBlock, DecodesCommit, DecodesCommitData, EncodesWords};
+ghost use Rattle.node_records.specs.Given.{locatorOf, rangeOf, voteGiven, voteWith, blockFieldsOf};
 ghost use Rattle.node_answers.specs.Answers.{Tells, Cleans, Shows, Links};
 ghost use Rattle.node.specs.Calls.{GivesWalk, GivesRecovery, GivesAppend, GivesInsert, GivesLookup};
 use types::TransactionLocator;
 use wal::WalPosition;
 use wal::WalWriter;
+
+// 0.2.0: major * 65536 + minor * 256 + patch.
+pub const VERSION: u32 = 0x0000_0200;
 
 // Appends an entry to a log of `used` bytes, and answers the refusal's number, 0 where there is none.
 #[no_mangle]
@@ -464,7 +479,8 @@ pub extern "C" fn kadzhomir_linked(
 // Decodes the block at a place.
 #[no_mangle]
 pub extern "C" fn kadzhomir_decode_block(bytes: &[u8], at: usize, answer: &mut [u64; 15]) -> u8
-    ensures { λ r. ⌜ DecodesBlock (blockAnswer at (block (now (bytes .entry)) at)) r (now (answer .exit)) ⌝ }
+    ensures { λ r. ⌜ DecodesBlock (blockAnswer at (parsedBlock (now (bytes .entry)) at))
+        r (now (answer .exit)) ⌝ }
 {
     let d = blocks::decode_block(bytes, at);
     node_log::put_block(answer, d)
@@ -478,9 +494,240 @@ pub extern "C" fn kadzhomir_include_at(
     i: usize,
     answer: &mut [u64; 8],
 ) -> u8
-    ensures { λ r. ⌜ DecodesReference (referenceAnswer (parsed (now (bytes .entry)) (place + 56 * i)))
+    ensures { λ r. ⌜ DecodesReference (referenceAnswer (parsedReference (now (bytes .entry)) (place + 56 * i)))
         r (now (answer .exit)) ⌝ }
 {
     let d = types::include_at(bytes, place, i);
     node_log::put_decoded(answer, d)
+}
+
+// Decodes the own block at a place: the words of its block, and the next entry.
+#[no_mangle]
+pub extern "C" fn kadzhomir_decode_own_block(bytes: &[u8], at: usize, answer: &mut [u64; 16]) -> u8
+    ensures { λ r. ⌜ DecodesOwnBlock (ownBlockAnswer at (ownBlock (now (bytes .entry)) at))
+        r (now (answer .exit)) ⌝ }
+{
+    let d = commits::decode_own_block(bytes, at);
+    node_records::put_own_block(answer, d)
+}
+
+// Decodes the statement at a place.
+#[no_mangle]
+pub extern "C" fn kadzhomir_decode_statement(bytes: &[u8], at: usize, answer: &mut [u64; 28]) -> u8
+    ensures { λ r. ⌜ DecodesStatement (statementAnswer (statement (now (bytes .entry)) at))
+        r (now (answer .exit)) ⌝ }
+{
+    let d = statements::decode_statement(bytes, at);
+    node_records::put_statement(answer, d)
+}
+
+// Decodes the payload at a place: statements behind their number.
+#[no_mangle]
+pub extern "C" fn kadzhomir_decode_payload(bytes: &[u8], at: usize, answer: &mut [u64; 4]) -> u8
+    ensures { λ r. ⌜ DecodesPayload (partAnswer at (payload (now (bytes .entry)) at)) r (now (answer .exit)) ⌝ }
+{
+    let d = commits::decode_payload(bytes, at);
+    node_records::put_payload(answer, d)
+}
+
+// Decodes the commit at a place: the elements of its list behind their number, and the committed state.
+#[no_mangle]
+pub extern "C" fn kadzhomir_decode_commit(bytes: &[u8], at: usize, answer: &mut [u64; 6]) -> u8
+    ensures { λ r. ⌜ DecodesCommit (commitAnswer at (commit (now (bytes .entry)) at)) r (now (answer .exit)) ⌝ }
+{
+    let d = commits::decode_commit(bytes, at);
+    node_records::put_commit(answer, d)
+}
+
+// Decodes an element of a commit's list at a place: a leader and its sub-dag.
+#[no_mangle]
+pub extern "C" fn kadzhomir_decode_commit_data(
+    bytes: &[u8],
+    at: usize,
+    answer: &mut [u64; 10],
+) -> u8
+    ensures { λ r. ⌜ DecodesCommitData (commitDataAnswer at (commitData (now (bytes .entry)) at))
+        r (now (answer .exit)) ⌝ }
+{
+    let d = commits::decode_commit_data(bytes, at);
+    node_records::put_commit_data(answer, d)
+}
+
+// Encodes a reference at a place of `out`, as each encoder below does: what does not fit, or is no record, leaves
+// `out` as it was.
+#[no_mangle]
+pub extern "C" fn kadzhomir_encode_reference(
+    out: &mut [u8],
+    at: usize,
+    reference: &[u64; 6],
+    answer: &mut [u64; 2],
+) -> u8
+    ensures { λ r. ⌜ EncodesWords (now (out .entry)) at
+        (some (referenceBytes (referenceOf (now (reference .entry)))))
+        r (now (answer .exit)) (now (out .exit)) ⌝ }
+{
+    let x = node_store::reference_at(reference, 0);
+    let encoded = encode::encode_reference(out, at, x);
+    node_records::put_encoded(answer, encoded)
+}
+
+// Encodes the statement Share of some bytes.
+#[no_mangle]
+pub extern "C" fn kadzhomir_encode_share(
+    out: &mut [u8],
+    at: usize,
+    bytes: &[u8],
+    answer: &mut [u64; 2],
+) -> u8
+    ensures { λ r. ⌜ EncodesWords (now (out .entry)) at (some (statementBytes (share (now (bytes .entry)))))
+        r (now (answer .exit)) (now (out .exit)) ⌝ }
+{
+    let encoded = encode::encode_share(out, at, bytes);
+    node_records::put_encoded(answer, encoded)
+}
+
+// Encodes the statement Vote: kind 0 accepts, 1 rejects, 2 rejects and names another locator.
+#[no_mangle]
+pub extern "C" fn kadzhomir_encode_vote(
+    out: &mut [u8],
+    at: usize,
+    locator: &[u64; 7],
+    kind: u64,
+    other: &[u64; 7],
+    answer: &mut [u64; 2],
+) -> u8
+    ensures { λ r. ⌜ EncodesWords (now (out .entry)) at
+        (laidOut (voteWith (locatorOf (now (locator .entry))))
+        (voteGiven kind (locatorOf (now (other .entry)))))
+        r (now (answer .exit)) (now (out .exit)) ⌝ }
+{
+    let encoded = node_records::encode_vote(out, at, locator, kind, other);
+    node_records::put_encoded(answer, encoded)
+}
+
+// Encodes the statement VoteRange.
+#[no_mangle]
+pub extern "C" fn kadzhomir_encode_vote_range(
+    out: &mut [u8],
+    at: usize,
+    range: &[u64; 8],
+    answer: &mut [u64; 2],
+) -> u8
+    ensures { λ r. ⌜ EncodesWords (now (out .entry)) at
+        (some (statementBytes (voteRange (rangeOf (now (range .entry))))))
+        r (now (answer .exit)) (now (out .exit)) ⌝ }
+{
+    let x = node_records::range_of(range);
+    let encoded = encode::encode_vote_range(out, at, x);
+    node_records::put_encoded(answer, encoded)
+}
+
+// Encodes a payload, of statements that are encoded one behind the other.
+#[no_mangle]
+pub extern "C" fn kadzhomir_encode_payload(
+    out: &mut [u8],
+    at: usize,
+    statements: &[u8],
+    count: u64,
+    answer: &mut [u64; 2],
+) -> u8
+    ensures { λ r. ⌜ EncodesWords (now (out .entry)) at
+        (laidOut payloadBytes (whole (many statement count) (now (statements .entry))))
+        r (now (answer .exit)) (now (out .exit)) ⌝ }
+{
+    let encoded = encode_blocks::encode_payload(out, at, statements, count);
+    node_records::put_encoded(answer, encoded)
+}
+
+// Encodes a block, of its fields and of includes and statements that are encoded one behind the other.
+#[no_mangle]
+pub extern "C" fn kadzhomir_encode_block(
+    out: &mut [u8],
+    at: usize,
+    block: &[u64; 11],
+    signature: &[u8; 64],
+    includes: &[u8],
+    statements: &[u8],
+    answer: &mut [u64; 2],
+) -> u8
+    ensures { λ r. ⌜ EncodesWords (now (out .entry)) at
+        (laidOut blockBytes (blockFrom (blockFieldsOf (now (block .entry)) (now (signature .entry)))
+        (now (includes .entry)) (now (statements .entry))))
+        r (now (answer .exit)) (now (out .exit)) ⌝ }
+{
+    let fields = node_records::block_fields(block, signature);
+    let encoded = encode_blocks::encode_block(out, at, fields, includes, statements);
+    node_records::put_encoded(answer, encoded)
+}
+
+// Encodes an own block: the next entry, and a block that is encoded already.
+#[no_mangle]
+pub extern "C" fn kadzhomir_encode_own_block(
+    out: &mut [u8],
+    at: usize,
+    next_entry: u64,
+    block: &[u8],
+    answer: &mut [u64; 2],
+) -> u8
+    ensures { λ r. ⌜ EncodesWords (now (out .entry)) at
+        (laidOut (ownBlockWith «next_entry») (whole parsedBlock (now (block .entry))))
+        r (now (answer .exit)) (now (out .exit)) ⌝ }
+{
+    let encoded = encode_commits::encode_own_block(out, at, WalPosition(next_entry), block);
+    node_records::put_encoded(answer, encoded)
+}
+
+// Encodes an element of a commit's list: a leader and its sub-dag, of references that are encoded one behind the
+// other.
+#[no_mangle]
+pub extern "C" fn kadzhomir_encode_commit_data(
+    out: &mut [u8],
+    at: usize,
+    leader: &[u64; 6],
+    sub_dag: &[u8],
+    count: u64,
+    answer: &mut [u64; 2],
+) -> u8
+    ensures { λ r. ⌜ EncodesWords (now (out .entry)) at
+        (laidOut (commitDataWith (referenceOf (now (leader .entry))))
+        (whole (many parsedReference count) (now («sub_dag» .entry))))
+        r (now (answer .exit)) (now (out .exit)) ⌝ }
+{
+    let x = node_store::reference_at(leader, 0);
+    let encoded = encode_commits::encode_commit_data(out, at, x, sub_dag, count);
+    node_records::put_encoded(answer, encoded)
+}
+
+// Encodes a commit, of the elements of its list, encoded one behind the other, and of the committed state.
+#[no_mangle]
+pub extern "C" fn kadzhomir_encode_commit(
+    out: &mut [u8],
+    at: usize,
+    commits: &[u8],
+    count: u64,
+    state: &[u8],
+    answer: &mut [u64; 2],
+) -> u8
+    ensures { λ r. ⌜ EncodesWords (now (out .entry)) at
+        (laidOut (commitWith (now (state .entry))) (whole (many commitData count) (now (commits .entry))))
+        r (now (answer .exit)) (now (out .exit)) ⌝ }
+{
+    let encoded = encode_commits::encode_commit(out, at, commits, count, state);
+    node_records::put_encoded(answer, encoded)
+}
+
+// The CRC-32 of some bytes.
+#[no_mangle]
+pub extern "C" fn kadzhomir_crc32(bytes: &[u8]) -> u32
+    ensures { λ r. ⌜ r ≡ crc32 (now (bytes .entry)) ⌝ }
+{
+    checksum::hash(bytes)
+}
+
+// The library's version.
+#[no_mangle]
+pub extern "C" fn kadzhomir_version() -> u32
+    ensures { λ r. ⌜ r ≡ 512 ⌝ }
+{
+    VERSION
 }

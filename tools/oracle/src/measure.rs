@@ -4,7 +4,7 @@
 //! Rust does beside its answer is counted with it: a system call for each append, mapping the file and the first touch of its pages
 //! in a walk and in recovery. Reading the file into the image, which is the caller's, is not counted for the port.
 //!
-//! Arguments: none for the tables; or WHAT SIDE TIMES, for a count of instructions.
+//! Arguments: none for the tables; rows, for that table alone; or WHAT SIDE TIMES, for a count of instructions.
 use crate::block_store::{BlockStore, BlockWriter, OwnBlockData};
 use crate::committee::Committee;
 use crate::data::Data;
@@ -22,6 +22,12 @@ const ROUNDS: usize = 9;
 const SIZES: [usize; 4] = [64, 400, 1 << 10, 64 << 10];
 const BLOCKS: [u64; 3] = [1_000, 10_000, 100_000];
 const AUTHORITIES: u64 = 4;
+
+/// The payloads of a log, and how many of them an own block drops.
+const PAYLOADS: u64 = 100_000;
+const DROPPED: u64 = 10;
+
+type PortStore = kadzhomir::BlockStore<Vec<u8>>;
 
 fn path() -> PathBuf {
     let memory = PathBuf::from("/dev/shm");
@@ -79,7 +85,11 @@ fn line(what: &str, mut round: impl FnMut() -> (f64, f64)) {
 }
 
 fn head(title: &str) {
-    println!("\n{title}\n\n| | Rust | port | ratio: least | median | greatest |\n|---|---|---|---|---|---|");
+    head_of(title, "Rust", "port");
+}
+
+fn head_of(title: &str, first: &str, second: &str) {
+    println!("\n{title}\n\n| | {first} | {second} | ratio: least | median | greatest |\n|---|---|---|---|---|---|");
 }
 
 // ---- Appends and walks
@@ -98,7 +108,7 @@ fn append_rust(size: usize) -> f64 {
 fn append_port(image: &mut Vec<u8>, size: usize) -> f64 {
     let payload = vec![7; size];
     let mut log = Log::new(K, std::mem::take(image), 0);
-    let t = time(entries(size), || drop(black_box(log.append(4, &payload).unwrap())));
+    let t = time(entries(size), || drop(black_box(log.append_raw(4, &payload).unwrap())));
     *image = std::mem::take(log.image_mut());
     t
 }
@@ -206,35 +216,74 @@ fn rows(n: u64) -> [usize; 4] {
     [8, n as usize, 0, n as usize]
 }
 
-fn recover_port(log: &Log<Vec<u8>>, n: u64) -> kadzhomir::BlockStore {
-    kadzhomir::BlockStore::open(&log.recover_in_rows(AUTHORITIES, 0, rows(n)).unwrap()).unwrap()
+fn recover_port(log: Log<Vec<u8>>, rows: [usize; 4]) -> PortStore {
+    log.recover_in_rows(AUTHORITIES, 0, rows).unwrap().0
+}
+
+/// Recovers a log and takes it back; the rest of the store is dropped.
+fn recover_and_drop(log: &mut Log<Vec<u8>>, recover: impl FnOnce(Log<Vec<u8>>) -> PortStore) {
+    let taken = std::mem::replace(log, Log::new(K, Vec::new(), 0));
+    *log = black_box(recover(taken)).into_log();
 }
 
 fn recovery_and_lookups() {
     for n in BLOCKS {
-        let log = block_log(n);
+        let mut log = block_log(n);
         head(&format!("{n} blocks, a log of {} bytes", log.used()));
-        let recover = || (time(1, || drop(black_box(open_rust()))), time(1, || drop(black_box(recover_port(&log, n)))));
-        line("recovery", recover);
-        lookups(&log, n);
+        line("recovery", || {
+            let rust = time(1, || drop(black_box(open_rust())));
+            (rust, time(1, || recover_and_drop(&mut log, |l| recover_port(l, rows(n)))))
+        });
+        let log = lookups(log, n);
         inserts(log, n);
     }
 }
 
+/// A log of payloads, which own blocks drop, and the rows that it needs.
+fn payload_log() -> (Log<Vec<u8>>, [usize; 4]) {
+    let (mut writer, _reader) = new_file();
+    let payload = bincode::serialize(&vec![BaseStatement::Share(Transaction::new(vec![5; 64]))]).unwrap();
+    let own_blocks = PAYLOADS / DROPPED;
+    for i in 1..=own_blocks {
+        (0..DROPPED).for_each(|_| drop(writer.write(2, &payload).unwrap()));
+        let block = block_with(0, i, &i.to_be_bytes(), vec![], vec![]);
+        OwnBlockData { next_entry: position(u64::MAX), block }.write_to_wal(&mut writer);
+    }
+    (file_log(), [DROPPED as usize, own_blocks as usize, 0, own_blocks as usize])
+}
+
+/// What it takes the port to size the rows by the log: a recovery in rows that are given, and one without them.
+fn sized_rows() {
+    head_of("Recovery by the port, in rows given and in rows sized by the log", "given", "sized");
+    for n in BLOCKS {
+        sized_line(&format!("{n} blocks"), block_log(n), rows(n));
+    }
+    let (log, rows) = payload_log();
+    sized_line(&format!("{PAYLOADS} payloads, {DROPPED} dropped by each own block"), log, rows);
+}
+
+fn sized_line(what: &str, mut log: Log<Vec<u8>>, rows: [usize; 4]) {
+    let times = (200_000_000 / log.used()).clamp(1, 100) as usize;
+    line(what, || {
+        let given = time(times, || recover_and_drop(&mut log, |l| recover_port(l, rows)));
+        (given, time(times, || recover_and_drop(&mut log, |l| l.recover(AUTHORITIES, 0).unwrap().0)))
+    });
+}
+
 /// Blocks of rounds above those in the log. The Rust writes each to its file.
-fn inserts(mut log: Log<Vec<u8>>, n: u64) {
+fn inserts(log: Log<Vec<u8>>, n: u64) {
     const EACH: usize = 20;
     let (mut writer, _reader) = log_file();
     let (rust, _metrics) = open_rust();
-    let mut port = recover_port(&log, n);
-    let room = log.image().len() + (1 << 20);
-    log.image_mut().resize(room, 0);
+    let mut port = recover_port(log, rows(n));
+    let room = port.log().image().len() + (1 << 20);
+    port.image_mut().resize(room, 0);
     let mut blocks = (n..).filter(|i| i % AUTHORITIES != 0).map(block);
     line("insert_block", || {
         let some: Vec<_> = blocks.by_ref().take(EACH).collect();
         let (mut a, mut b) = (some.iter(), some.iter());
         let rust = time(EACH, || drop((&mut writer, &rust).insert_block(a.next().unwrap().clone())));
-        (rust, time(EACH, || drop(port.insert_block(&mut log, b.next().unwrap().serialized_bytes()).unwrap())))
+        (rust, time(EACH, || drop(port.insert_block(b.next().unwrap().serialized_bytes()).unwrap())))
     });
 }
 
@@ -248,9 +297,10 @@ impl Asked {
     }
 }
 
-fn lookups(log: &Log<Vec<u8>>, n: u64) {
+/// The log is given back.
+fn lookups(log: Log<Vec<u8>>, n: u64) -> Log<Vec<u8>> {
     let (rust, _metrics) = open_rust();
-    let mut port = recover_port(log, n);
+    let port = recover_port(log, rows(n));
     let (often, times) = (2_000, (2_000_000 / n).max(20) as usize);
     let references: Vec<BlockReference> = (0..n).map(reference).collect();
     let ported: Vec<kadzhomir::BlockReference> = references.iter().map(port_reference).collect();
@@ -258,39 +308,40 @@ fn lookups(log: &Log<Vec<u8>>, n: u64) {
     let mut round = |i: &mut Asked| i.next() / AUTHORITIES + 1;
     line("get_block", || {
         let rust = time(often, || drop(black_box(rust.get_block(references[a.next() as usize]))));
-        (rust, time(times, || drop(black_box(port.get_block(log, &ported[b.next() as usize]).unwrap()))))
+        (rust, time(times, || drop(black_box(port.get_block(&ported[b.next() as usize]).unwrap()))))
     });
     line("block_exists", || {
         let rust = time(often, || drop(black_box(rust.block_exists(references[a.next() as usize]))));
-        (rust, time(times, || drop(black_box(port.block_exists(log, &ported[b.next() as usize]).unwrap()))))
+        (rust, time(times, || drop(black_box(port.block_exists(&ported[b.next() as usize]).unwrap()))))
     });
     line("get_blocks_by_round", || {
         let rust = time(often, || drop(black_box(rust.get_blocks_by_round(round(&mut a)))));
-        (rust, time(times, || drop(black_box(port.get_blocks_by_round(log, round(&mut b)).unwrap()))))
+        (rust, time(times, || drop(black_box(port.get_blocks_by_round(round(&mut b)).unwrap()))))
     });
     line("get_own_blocks, 10 of them", || {
         let rust = time(often, || drop(black_box(rust.get_own_blocks(round(&mut a), 10))));
-        (rust, time(times, || drop(black_box(port.get_own_blocks(log, round(&mut b), 10).unwrap()))))
+        (rust, time(times, || drop(black_box(port.get_own_blocks(round(&mut b), 10).unwrap()))))
     });
     line("get_others_blocks, 10 rounds", || {
         let rust = time(often, || drop(black_box(rust.get_others_blocks(round(&mut a), 1, 10))));
-        (rust, time(times, || drop(black_box(port.get_others_blocks(log, round(&mut b), 1, 10).unwrap()))))
+        (rust, time(times, || drop(black_box(port.get_others_blocks(round(&mut b), 1, 10).unwrap()))))
     });
     line("get_transaction", || {
         let rust = time(often, || drop(black_box(rust.get_transaction(&TransactionLocator::new(references[a.next() as usize], 0)))));
-        (rust, time(times, || drop(black_box(port.get_transaction(log, &ported[b.next() as usize], 0).unwrap()))))
+        (rust, time(times, || drop(black_box(port.get_transaction(&ported[b.next() as usize], 0).unwrap()))))
     });
-    linked(log, n, &rust, &mut port);
+    linked(n, &rust, &port);
+    port.into_log()
 }
 
 /// An ancestor five rounds below.
-fn linked(log: &Log<Vec<u8>>, n: u64, rust: &BlockStore, port: &mut kadzhomir::BlockStore) {
+fn linked(n: u64, rust: &BlockStore, port: &PortStore) {
     let (later, earlier) = (block(n - 1), block(n - 1 - 5 * AUTHORITIES));
     let earlier_reference = port_reference(earlier.reference());
     let times = (2_000_000 / n).max(20) as usize;
     line("linked, five rounds", || {
         let rust = time(1_000, || drop(black_box(rust.linked(&later, &earlier))));
-        (rust, time(times, || drop(black_box(port.linked(log, later.serialized_bytes(), &earlier_reference).unwrap()))))
+        (rust, time(times, || drop(black_box(port.linked(later.serialized_bytes(), &earlier_reference).unwrap()))))
     });
 }
 
@@ -299,9 +350,9 @@ fn linked(log: &Log<Vec<u8>>, n: u64, rust: &BlockStore, port: &mut kadzhomir::B
 /// Does one thing so many times, on one side: two runs with different numbers show what one takes.
 fn counted(what: &str, port: bool, times: usize) {
     let n = BLOCKS[0];
-    let log = if what == "walk" { logs(1 << 10, 1_000) } else { block_log(n) };
+    let mut log = if what == "walk" { logs(1 << 10, 1_000) } else { block_log(n) };
     let (rust, _metrics) = open_rust_if(what != "walk");
-    let mut store = rust.is_some().then(|| recover_port(&log, n));
+    let store = rust.is_some().then(|| recover_port(Log::new(K, log.image().to_vec(), log.used()), rows(n)));
     let r = reference(n / 2);
     let ported = port_reference(&r);
     for _ in 0..times {
@@ -309,9 +360,9 @@ fn counted(what: &str, port: bool, times: usize) {
             ("walk", false) => walk_rust(),
             ("walk", true) => walk_port(&log),
             ("recovery", false) => drop(black_box(open_rust())),
-            ("recovery", true) => drop(black_box(recover_port(&log, n))),
+            ("recovery", true) => recover_and_drop(&mut log, |l| recover_port(l, rows(n))),
             ("get_block", false) => drop(black_box(rust.as_ref().unwrap().get_block(r))),
-            ("get_block", true) => drop(black_box(store.as_mut().unwrap().get_block(&log, &ported))),
+            ("get_block", true) => drop(black_box(store.as_ref().unwrap().get_block(&ported))),
             _ => panic!("walk, recovery or get_block"),
         }
     }
@@ -329,11 +380,13 @@ pub fn main() {
     let words: Vec<String> = std::env::args().skip(1).collect();
     match &words[..] {
         [what, side, times] => counted(what, side == "port", times.parse().expect("a number")),
+        [what] if what == "rows" => sized_rows(),
         _ => {
-            println!("Processor time; {ROUNDS} rounds each; the ratio is the port's time over the Rust's.");
+            println!("Processor time; {ROUNDS} rounds each; the ratio is the second time over the first.");
             append_and_walk();
             checksum();
             recovery_and_lookups();
+            sized_rows();
         }
     }
     let _ = std::fs::remove_file(path());

@@ -1,6 +1,6 @@
 //! Every lookup, asked of both sides.
 use super::panics::caught;
-use super::sides::{check_refusal, reference, Logs, Reference, Stores};
+use super::sides::{check_refusal, reference, Logs, PortStore, Reference, Stores};
 use super::tally::Tally;
 use crate::block_store::BlockStore;
 use crate::data::Data;
@@ -19,8 +19,8 @@ fn shown_port(logs: &Logs, found: &Found) -> Shown {
 }
 
 impl Stores {
-    fn same_loads(&self, t: &mut Tally) {
-        t.same("loads", self.metrics.block_store_loaded_blocks.get(), self.port.loads());
+    fn same_loads(&self, t: &mut Tally, logs: &Logs) {
+        t.same("loads", self.metrics.block_store_loaded_blocks.get(), logs.port.store().loads());
     }
 
     /// A lookup that answers blocks. The Rust's order within a round is a HashMap's; the port's rows must ascend.
@@ -30,19 +30,19 @@ impl Stores {
         logs: &Logs,
         kind: &'static str,
         rust: impl FnOnce(&BlockStore) -> Vec<Data<StatementBlock>>,
-        port: impl FnOnce(&mut kadzhomir::BlockStore) -> Result<Vec<Found>, Refusal>,
+        port: impl FnOnce(&PortStore) -> Result<Vec<Found>, Refusal>,
     ) {
         let rust = caught(|| rust(&self.rust));
-        match (rust, port(&mut self.port)) {
+        match (rust, port(logs.port.store())) {
             (Ok(rust), Ok(port)) => {
                 let mut rust: Vec<Shown> = rust.iter().map(shown).collect();
                 rust.sort();
                 t.same(kind, rust, port.iter().map(|f| shown_port(logs, f)).collect());
-                self.same_loads(t);
+                self.same_loads(t, logs);
             }
             (Err(panic), Err(refusal)) => {
                 check_refusal(t, kind, &panic, refusal.number());
-                self.same_loads(t);
+                self.same_loads(t, logs);
             }
             (rust, port) => t.differ(kind, &format!("the Rust: {:?}\nthe port: {port:?}", rust.map_err(|p| p.0))),
         }
@@ -55,14 +55,13 @@ impl Stores {
             logs,
             "get_block",
             |s| s.get_block(*r).into_iter().collect(),
-            |s| Ok(s.get_block(&logs.port, &port)?.into_iter().collect()),
+            |s| Ok(s.get_block(&port)?.into_iter().collect()),
         );
-        t.same("block_exists", Ok(self.rust.block_exists(*r)), self.port.block_exists(&logs.port, &port));
+        t.same("block_exists", Ok(self.rust.block_exists(*r)), logs.port.store().block_exists(&port));
     }
 
     pub fn ask_round(&mut self, t: &mut Tally, logs: &Logs, round: u64) {
-        let (rust, port) =
-            (|s: &BlockStore| s.get_blocks_by_round(round), |s: &mut kadzhomir::BlockStore| s.get_blocks_by_round(&logs.port, round));
+        let (rust, port) = (|s: &BlockStore| s.get_blocks_by_round(round), |s: &PortStore| s.get_blocks_by_round(round));
         self.same_blocks(t, logs, "get_blocks_by_round", rust, port);
     }
 
@@ -72,21 +71,21 @@ impl Stores {
             logs,
             "get_blocks_at_authority_round",
             |s| s.get_blocks_at_authority_round(authority, round),
-            |s| s.get_blocks_at_authority_round(&logs.port, authority, round),
+            |s| s.get_blocks_at_authority_round(authority, round),
         );
         let rust = self.rust.block_exists_at_authority_round(authority, round);
-        t.same("block_exists_at_authority_round", Ok(rust), self.port.block_exists_at_authority_round(&logs.port, authority, round));
+        t.same("block_exists_at_authority_round", Ok(rust), logs.port.store().block_exists_at_authority_round(authority, round));
     }
 
     pub fn ask_authors(&mut self, t: &mut Tally, logs: &Logs, authorities: &[u64], round: u64) {
         let rust = self.rust.all_blocks_exists_at_authority_round(authorities, round);
-        let port = self.port.all_blocks_exists_at_authority_round(&logs.port, authorities, round);
+        let port = logs.port.store().all_blocks_exists_at_authority_round(authorities, round);
         t.same("all_blocks_exists_at_authority_round", Ok(rust), port);
-        self.same_loads(t);
+        self.same_loads(t, logs);
     }
 
     pub fn ask_own(&mut self, t: &mut Tally, logs: &Logs, from: u64, limit: usize) {
-        self.same_blocks(t, logs, "get_own_blocks", |s| s.get_own_blocks(from, limit), |s| s.get_own_blocks(&logs.port, from, limit));
+        self.same_blocks(t, logs, "get_own_blocks", |s| s.get_own_blocks(from, limit), |s| s.get_own_blocks(from, limit));
     }
 
     pub fn ask_others(&mut self, t: &mut Tally, logs: &Logs, from: u64, authority: u64, limit: usize) {
@@ -95,29 +94,29 @@ impl Stores {
             logs,
             "get_others_blocks",
             |s| s.get_others_blocks(from, authority, limit),
-            |s| s.get_others_blocks(&logs.port, from, authority, limit),
+            |s| s.get_others_blocks(from, authority, limit),
         );
     }
 
     pub fn ask_transaction(&mut self, t: &mut Tally, logs: &Logs, r: &BlockReference, offset: u64) {
         let rust = self.rust.get_transaction(&TransactionLocator::new(*r, offset)).map(|x| x.into_data());
-        let port = self.port.get_transaction(&logs.port, &reference(r), offset);
+        let port = logs.port.store().get_transaction(&reference(r), offset);
         t.same("get_transaction", Ok(rust), port.map(|found| found.map(|range| logs.port.image()[range].to_vec())));
-        self.same_loads(t);
+        self.same_loads(t, logs);
     }
 
     pub fn ask_linked(&mut self, t: &mut Tally, logs: &Logs, later: &Data<StatementBlock>, earlier: &Data<StatementBlock>) {
         let rust = self.rust.linked(later, earlier);
-        let port = self.port.linked(&logs.port, later.serialized_bytes(), &reference(earlier.reference()));
+        let port = logs.port.store().linked(later.serialized_bytes(), &reference(earlier.reference()));
         t.same(if rust { "linked: yes" } else { "linked: no" }, Ok(rust), port);
-        self.same_loads(t);
+        self.same_loads(t, logs);
     }
 
-    pub fn cleanup(&mut self, t: &mut Tally, logs: &Logs, threshold: u64) {
+    pub fn cleanup(&mut self, t: &mut Tally, logs: &mut Logs, threshold: u64) {
         let before = self.metrics.block_store_unloaded_blocks.get();
         self.rust.cleanup(threshold);
         let unloaded = self.metrics.block_store_unloaded_blocks.get() - before;
-        t.same("cleanup: unloaded", Ok(unloaded), self.port.cleanup(&logs.port, threshold));
-        self.same_index(t);
+        t.same("cleanup: unloaded", Ok(unloaded), logs.port.store_mut().cleanup(threshold));
+        self.same_index(t, logs);
     }
 }

@@ -86,12 +86,12 @@ fn grow(t: &mut Tally, m: &mut Maker, logs: &mut Logs, stores: &mut Stores) {
             }
         }
     }
-    stores.same_index(t);
+    stores.same_index(t, logs);
     (0..12).for_each(|_| question(t, m, logs, stores));
     logs.same_bytes(t, 0);
     logs.same_entries(t);
     if let Some(mut again) = logs.open(t, m.size, m.own) {
-        again.same_summary(t);
+        again.same_summary(t, logs);
         (0..4).for_each(|_| question(t, m, logs, &mut again));
         damaged_lookup(t, m, logs, again);
     }
@@ -268,7 +268,7 @@ fn passes_end(logs: &Logs, p: u64) -> bool {
 
 /// A block whose entry is damaged after the log was opened: it is not loaded, so that both read it.
 fn damaged_lookup(t: &mut Tally, m: &mut Maker, logs: &mut Logs, mut stores: Stores) {
-    let rows: Vec<_> = stores.port.index().collect();
+    let rows: Vec<_> = logs.port.store().index().collect();
     if rows.is_empty() {
         return;
     }
@@ -294,9 +294,9 @@ fn damaged_lookup(t: &mut Tally, m: &mut Maker, logs: &mut Logs, mut stores: Sto
 
 fn look_at_damage(t: &mut Tally, logs: &Logs, stores: &mut Stores, row: kadzhomir::Indexed) {
     let asked = crate::types::BlockReference { authority: row.reference.authority, round: row.reference.round, digest: digest_of(&row) };
-    let loads = stores.port.loads();
+    let loads = logs.port.store().loads();
     let rust = caught(|| stores.rust.get_block(asked));
-    let port = stores.port.get_block(&logs.port, &row.reference);
+    let port = logs.port.store().get_block(&row.reference);
     let past = passes_end(logs, row.position.0);
     t.same("damaged lookup: whether past the log's end", past, port == Err(Refusal::PastUsed));
     match (rust, port) {
@@ -307,7 +307,7 @@ fn look_at_damage(t: &mut Tally, logs: &Logs, stores: &mut Stores, row: kadzhomi
         (_, Err(Refusal::PastUsed)) => {}
         (Err(panic), Err(refusal)) => {
             check_refusal(t, "damaged lookup", &panic, refusal.number());
-            t.holds("damaged lookup: no load counted", stores.port.loads() == loads, &stores.port.loads());
+            t.holds("damaged lookup: no load counted", logs.port.store().loads() == loads, &logs.port.store().loads());
         }
         (rust, port) => t.differ("damaged lookup", &format!("the Rust: {:?}\nthe port: {port:?}", rust.map_err(|p| p.0))),
     }

@@ -8,13 +8,15 @@ use crate::metrics::Metrics;
 use crate::recovery::{answer_of, digest, number, position, Answer, Entries, Place, Row, K};
 use crate::types::{BaseStatement, BlockReference, StatementBlock};
 use crate::wal::{open_file_for_wal, walf, WalPosition, WalReader, WalWriter};
-use kadzhomir::{Log, Recovered, RefusedAt, Stop};
+use kadzhomir::{Log, Pending, Recovered, Refusal, RefusedAt, Stop};
 use std::fs::File;
+use std::ops::Deref;
 use std::os::unix::fs::FileExt;
 use std::path::PathBuf;
 use std::sync::Arc;
 
 pub type Reference = kadzhomir::BlockReference;
+pub type PortStore = kadzhomir::BlockStore<Vec<u8>>;
 
 pub const REGION: u64 = 1 << K;
 
@@ -35,12 +37,73 @@ pub fn clean() {
     let _ = std::fs::remove_file(path());
 }
 
+/// The port's log, and once it is opened the store that has it.
+pub enum Port {
+    Log(Log<Vec<u8>>),
+    Store(PortStore),
+}
+
+impl Deref for Port {
+    type Target = Log<Vec<u8>>;
+
+    fn deref(&self) -> &Log<Vec<u8>> {
+        match self {
+            Port::Log(log) => log,
+            Port::Store(store) => store.log(),
+        }
+    }
+}
+
+impl Port {
+    pub fn store(&self) -> &PortStore {
+        match self {
+            Port::Log(_) => panic!("the log is not opened"),
+            Port::Store(store) => store,
+        }
+    }
+
+    pub fn store_mut(&mut self) -> &mut PortStore {
+        match self {
+            Port::Log(_) => panic!("the log is not opened"),
+            Port::Store(store) => store,
+        }
+    }
+
+    pub fn image_mut(&mut self) -> &mut Vec<u8> {
+        match self {
+            Port::Log(log) => log.image_mut(),
+            Port::Store(store) => store.image_mut(),
+        }
+    }
+
+    fn append_raw(&mut self, tag: u32, payload: &[u8]) -> Result<kadzhomir::WalPosition, Refusal> {
+        match self {
+            Port::Log(log) => log.append_raw(tag, payload),
+            Port::Store(store) => store.append_raw(tag, payload),
+        }
+    }
+
+    /// Recovers the log, of a store too, which is given up. A log that is refused stays as it was.
+    fn recover(&mut self, size: u64, own: u64) -> Result<Recovered, RefusedAt> {
+        let log = match std::mem::replace(self, Port::Log(Log::new(K, Vec::new(), 0))) {
+            Port::Log(log) => log,
+            Port::Store(store) => store.into_log(),
+        };
+        let (port, answer) = match log.recover(size, own) {
+            Ok((store, recovered)) => (Port::Store(store), Ok(recovered)),
+            Err(refused) => (Port::Log(refused.log), Err(refused.refused)),
+        };
+        *self = port;
+        answer
+    }
+}
+
 /// The two logs.
 pub struct Logs {
     pub writer: WalWriter,
     pub reader: Arc<WalReader>,
     pub file: File,
-    pub port: Log<Vec<u8>>,
+    pub port: Port,
     /// What both writers took: position, tag and payload. None where the log did not begin empty.
     written: Option<Vec<(u64, u32, Vec<u8>)>>,
 }
@@ -64,7 +127,7 @@ impl Logs {
     /// The Rust's side of a file, from its end on.
     pub fn resume(file: File, port: Log<Vec<u8>>) -> Self {
         let (writer, reader) = walf(file.try_clone().unwrap()).unwrap();
-        Self { writer, reader: Arc::new(reader), file, port, written: None }
+        Self { writer, reader: Arc::new(reader), file, port: Port::Log(port), written: None }
     }
 
     /// Zeros behind the file, up to the next region but one: the mapped reader may then look anywhere in its region. The
@@ -83,7 +146,7 @@ impl Logs {
     pub fn append(&mut self, t: &mut Tally, tag: u32, payload: &[u8]) -> Option<u64> {
         let before = self.port.used();
         let rust = caught(|| number(self.writer.write(tag, payload).unwrap()));
-        let port = self.port.append(tag, payload);
+        let port = self.port.append_raw(tag, payload);
         match (rust, port) {
             (Ok(rust), Ok(port)) => {
                 t.same("append: position", rust, port.0);
@@ -151,17 +214,22 @@ impl Logs {
         t.holds("walk: stop, E, unread", holds, &(whole, end, stop));
     }
 
-    /// Opens both; none where the Rust panics.
-    pub fn open(&self, t: &mut Tally, size: usize, own: u64) -> Option<Stores> {
+    /// Opens both; none where the Rust panics. The port's store takes the place of one opened before.
+    pub fn open(&mut self, t: &mut Tally, size: usize, own: u64) -> Option<Stores> {
         let metrics = Arc::new(Metrics::default());
         let committee = Committee::new_test(vec![1; size]);
         let rust = caught(|| BlockStore::open(own, self.reader.clone(), &self.writer, metrics.clone(), &committee));
+        let used = self.port.used();
         let port = self.port.recover(size as u64, own);
+        // The store's log goes on at E; a refused one is given back as it was.
+        let goes_on = port.as_ref().map_or(used, |p| p.end().0);
+        if self.port.used() != goes_on {
+            t.differ("recovery: the log's length", &format!("the port: {}, not {goes_on}", self.port.used()));
+        }
         match (rust, port) {
             (Ok(rust), Ok(port)) => {
-                same_state(t, &answer_of(&rust, &Entries::of(&self.reader, &self.writer), size), &port);
-                let store = kadzhomir::BlockStore::open(&port).unwrap_or_else(|r| t.differ("open", &format!("{r}")));
-                Some(Stores { size, rust: rust.block_store, metrics, port: store })
+                same_state(t, &answer_of(&rust, &Entries::of(&self.reader, &self.writer), size), &port, self.port.store());
+                Some(Stores { size, rust: rust.block_store, metrics })
             }
             (Err(panic), _) if panic.left_over() => {
                 t.leave_out("recovery of a log with 1 to 15 bytes left over");
@@ -215,8 +283,30 @@ pub fn check_refusal(t: &mut Tally, kind: &'static str, panic: &Panic, refusal: 
     t.refused(kind, refusal);
 }
 
-fn rows(words: &[u64]) -> Vec<Row> {
-    words.chunks_exact(8).map(|row| row.try_into().unwrap()).collect()
+/// A row that begins with a reference.
+fn row(r: &Reference, last: [u64; 2]) -> Row {
+    let k = r.to_words();
+    [k[0], k[1], k[2], k[3], k[4], k[5], last[0], last[1]]
+}
+
+fn pending_row(pending: Pending) -> Row {
+    match pending {
+        Pending::Block { position, reference } => {
+            let k = reference.to_words();
+            [position.0, 1, k[0], k[1], k[2], k[3], k[4], k[5]]
+        }
+        Pending::Payload { position, len } => [position.0, 2, len, 0, 0, 0, 0, 0],
+    }
+}
+
+/// What the port recovered, in the rows of docs/LAYOUTS.md.
+fn tables(port: &Recovered, store: &PortStore) -> [Vec<Row>; 4] {
+    [
+        port.pending().map(pending_row).collect(),
+        port.unprocessed().map(|(r, position)| row(&r, [position.0, 0])).collect(),
+        port.committed().map(|r| row(&r, [0, 0])).collect(),
+        store.index().map(|i| row(&i.reference, [i.position.0, i.loaded as u64])).collect(),
+    ]
 }
 
 fn place(range: Option<std::ops::Range<usize>>) -> Place {
@@ -224,9 +314,10 @@ fn place(range: Option<std::ops::Range<usize>>) -> Place {
 }
 
 /// What the Rust recovered against the port's tables and words. The Rust's sets are in the port's order already.
-pub fn same_state(t: &mut Tally, rust: &Answer, port: &Recovered) {
+pub fn same_state(t: &mut Tally, rust: &Answer, port: &Recovered, store: &PortStore) {
+    let tables = tables(port, store);
     for (i, kind) in ["state: pending", "state: unprocessed", "state: committed", "state: index"].iter().enumerate() {
-        t.same(kind, &rust.tables[i], &rows(&port.tables()[i]));
+        t.same(kind, &rust.tables[i], &tables[i]);
     }
     t.same("state: last own block", rust.places[0], place(port.last_own_block()));
     t.same("state: state", rust.places[1], place(port.state()));
@@ -237,29 +328,28 @@ pub fn same_state(t: &mut Tally, rust: &Answer, port: &Recovered) {
     t.same("state: summary", (rust.highest, &rust.seen, rust.own.as_ref().map(reference)), (port.highest_round(), &seen, own));
 }
 
-/// The stores that both sides opened.
+/// The stores that both sides opened. The port's has the log, and is in `Logs`.
 pub struct Stores {
     pub size: usize,
     pub rust: BlockStore,
     pub metrics: Arc<Metrics>,
-    pub port: kadzhomir::BlockStore,
 }
 
 impl Stores {
     /// Inserts a block into both, behind a next entry where one is given. False where the Rust panics.
     pub fn insert(&mut self, t: &mut Tally, logs: &mut Logs, next_entry: Option<u64>, block: &Data<StatementBlock>) -> bool {
         let bytes = block.serialized_bytes();
-        let before = (logs.port.image().to_vec(), logs.port.used(), index_of(&self.port), self.port.loads());
+        let before = state_of(logs.port.store());
         let writer = &mut logs.writer;
         let (rust, port) = match next_entry {
             None => {
                 let rust = caught(|| Some(number((writer, &self.rust).insert_block(block.clone()))));
-                (rust, self.port.insert_block(&mut logs.port, bytes))
+                (rust, logs.port.store_mut().insert_block(bytes))
             }
             Some(next) => {
                 let data = OwnBlockData { next_entry: position(next), block: block.clone() };
                 let rust = caught(|| (writer, &self.rust).insert_own_block(&data)).map(|_| None);
-                (rust, self.port.insert_own_block(&mut logs.port, &[&next.to_le_bytes()[..], bytes].concat()))
+                (rust, logs.port.store_mut().insert_own_block(&[&next.to_le_bytes()[..], bytes].concat()))
             }
         };
         match (rust, port) {
@@ -271,13 +361,12 @@ impl Stores {
                     None => logs.note(rust, 1, bytes),
                     Some(next) => logs.note(rust, 3, &[&next.to_le_bytes()[..], bytes].concat()),
                 }
-                self.same_summary(t);
+                self.same_summary(t, logs);
                 true
             }
             (Err(panic), Err(refusal)) => {
                 check_refusal(t, "insert", &panic, refusal.number());
-                let after = (logs.port.image().to_vec(), logs.port.used(), index_of(&self.port), self.port.loads());
-                t.holds("insert: refused, unchanged", before == after, &refusal);
+                t.holds("insert: refused, unchanged", before == state_of(logs.port.store()), &refusal);
                 false
             }
             (rust, port) => t.differ("insert", &format!("the Rust: {:?}\nthe port: {port:?}", rust.map_err(|p| p.0))),
@@ -290,23 +379,29 @@ impl Stores {
         number(found.expect("an inserted block is indexed"))
     }
 
-    pub fn same_summary(&self, t: &mut Tally) {
-        t.same("highest_round", self.rust.highest_round(), self.port.highest_round());
-        t.same("len_expensive", self.rust.len_expensive(), self.port.len_expensive());
-        t.same("last_own_block_ref", self.rust.last_own_block_ref().as_ref().map(reference), self.port.last_own_block_ref());
+    pub fn same_summary(&self, t: &mut Tally, logs: &Logs) {
+        let port = logs.port.store();
+        t.same("highest_round", self.rust.highest_round(), port.highest_round());
+        t.same("len_expensive", self.rust.len_expensive(), port.len_expensive());
+        t.same("last_own_block_ref", self.rust.last_own_block_ref().as_ref().map(reference), port.last_own_block_ref());
         let seen = |f: &dyn Fn(u64) -> u64| (0..self.size as u64).map(f).collect::<Vec<_>>();
-        t.same("last_seen_by_authority", seen(&|a| self.rust.last_seen_by_authority(a)), seen(&|a| self.port.last_seen_by_authority(a)));
+        t.same("last_seen_by_authority", seen(&|a| self.rust.last_seen_by_authority(a)), seen(&|a| port.last_seen_by_authority(a)));
     }
 
     /// The index with its positions and loaded flags; the port's rows ascend.
-    pub fn same_index(&self, t: &mut Tally) {
+    pub fn same_index(&self, t: &mut Tally, logs: &Logs) {
         let rust = inside::index(&self.rust);
         let mut rust: Vec<_> = rust.iter().map(|(r, p, loaded)| (reference(r), number(*p), *loaded)).collect();
         rust.sort();
-        t.same("index: rows, positions, loaded", rust, index_of(&self.port));
+        t.same("index: rows, positions, loaded", rust, index_of(logs.port.store()));
     }
 }
 
-fn index_of(store: &kadzhomir::BlockStore) -> Vec<(Reference, u64, bool)> {
+fn index_of(store: &PortStore) -> Vec<(Reference, u64, bool)> {
     store.index().map(|i| (i.reference, i.position.0, i.loaded)).collect()
+}
+
+/// What a refused insert must leave: image, length, index and loads.
+fn state_of(store: &PortStore) -> (Vec<u8>, u64, Vec<(Reference, u64, bool)>, u64) {
+    (store.log().image().to_vec(), store.log().used(), index_of(store), store.loads())
 }

@@ -41,7 +41,7 @@ fn list(t: &mut Tally, mut code: u64) {
     logs.same_bytes(t, 0);
     logs.same_entries(t);
     if let Some(stores) = logs.open(t, 4, 0) {
-        stores.same_summary(t);
+        stores.same_summary(t, &logs);
     }
 }
 
@@ -158,7 +158,7 @@ fn graph(t: &mut Tally, arrows: u64, missing: u64) {
             stores.insert(t, &mut logs, None, block);
         }
     }
-    stores.cleanup(t, &logs, 2);
+    stores.cleanup(t, &mut logs, 2);
     for later in &blocks {
         for earlier in &blocks {
             stores.ask_linked(t, &logs, later, earlier);
@@ -206,14 +206,13 @@ fn cut_everywhere(t: &mut Tally, m: &mut Maker, logs: &Logs) {
         let mut image = whole.clone();
         image[cut as usize..].fill(m.r.gen());
         let log = Log::new(K, image, cut);
-        let port = log.recover(m.size as u64, m.own).unwrap_or_else(|r| t.differ("cuts", &format!("cut at {cut}: {r}")));
-        let writer = port.writer(log.into_image()).unwrap_or_else(|r| t.differ("cuts", &format!("writer after a cut at {cut}: {r}")));
+        let (store, port) = log.recover(m.size as u64, m.own).unwrap_or_else(|r| t.differ("cuts", &format!("cut at {cut}: {r}")));
         let end = ends.iter().copied().filter(|e| *e <= cut).max().unwrap_or(0);
-        t.same("cut: E, unread, writer", (end, cut - end, end), (port.end().0, port.unread(), writer.used()));
+        t.same("cut: E, unread, writer", (end, cut - end, end), (port.end().0, port.unread(), store.log().used()));
         if rust.as_ref().map(|(e, _)| *e) != Some(end) {
             rust = Some((end, opened(&whole[..end as usize], m.size, m.own)));
         }
-        same_state(t, &rust.as_ref().unwrap().1, &port);
+        same_state(t, &rust.as_ref().unwrap().1, &port, &store);
     }
 }
 

@@ -36,10 +36,10 @@ use Rattle.reopened.proofs.Agreeing.{item-no-block, insert-holds}
 use Rattle.reopened.proofs.Refusing.{number-checked}
 use Rattle.reopened.proofs.Reopened.{Carries, carries}
 use Rattle.durable.specs.Durable.{AtLeast}
-use Rattle.durable.proofs.Recoveries.{not-refused, recovers-to-end, larger-tables}
+use Rattle.durable.proofs.Recoveries.{not-refused, recovers-to-end}
+use Rattle.durable.proofs.Tables.{served-larger, same-or-full}
 use Rattle.durable.proofs.Durability.{durability}
 use Rattle.checked.specs.Checked.{IsChecked, AllChecked, Accepted}
-use Rattle.checked.proofs.Tables.{recover-other}
 use Rattle.checked.proofs.Growing.{checked-decodes, block-decodes, ReadsWhole, whole-so, scans-so, grows}
 
 -- ---- One call each
@@ -131,10 +131,10 @@ accepted k low high size own committee log s words made checked =
     let r = reads-whole k size own committee low high made checked in
     let serves : (lent : Lent) → AtLeast (r .lent) lent
     → recover k (log .image) (log .used) size own lent ≡ recovered END (log .used) (r .entries) =
-    λ lent larger. larger-tables k (log .image) (log .used) size own (r .lent) lent END (log .used) (r .entries) larger (r .is) in
+    λ lent larger. served-larger k (log .image) (log .used) size own (r .lent) (r .is) lent larger in
     record {
       entries = r .entries;
-      answers = λ lent. recover-other size own (r .lent) lent k (log .image) (log .used) (r .is);
+      answers = λ lent. same-or-full k (log .image) (log .used) size own (r .lent) lent (r .is);
       enough = r .lent;
       serves = serves;
       durable = λ lent larger. durability k (log .used) (log .image) size own lent END (r .entries) (serves lent larger);

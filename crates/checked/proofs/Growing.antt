@@ -29,7 +29,8 @@ use Rattle.cut.proofs.Growing.{walk-grows, grown-long}
 use Rattle.reopened.proofs.Classifying.{readsOf, scan-reads}
 use Rattle.reopened.proofs.Reopened.{Carries}
 use Rattle.durable.proofs.Scans.{decodes-on, scan-on, scan-passes}
-use Rattle.durable.proofs.Recoveries.{not-refused, recovered-so, larger-tables}
+use Rattle.durable.proofs.Recoveries.{not-refused, recovered-so}
+use Rattle.durable.proofs.Tables.{served-larger}
 use Rattle.checked.specs.Checked.{IsChecked, statements, state, commits}
 
 -- ---- What an entry holds
@@ -139,9 +140,8 @@ module _ (k size own : ℕ) where
       scans-more : scan size own more [] (h .entries) ≡ scanned (r .entries)
       scans-more =
           scans-so more
-          (larger-tables k (log .image) (log .used) size own (r .lent) more END (log .used) (r .entries)
-          (record { pending = omega arith; unprocessed = omega arith; committed = omega arith; index = omega arith })
-          (r .is))
+          (served-larger k (log .image) (log .used) size own (r .lent) (r .is) more
+          (record { pending = omega arith; unprocessed = omega arith; committed = omega arith; index = omega arith }))
 
       scans-one : blockCheck size own (blocks (readsOf (h .entries))) (blockIn (holds .item)) ≡ 0
           → scan size own more [] (h .entries ++ (a ∷ [])) ≡ scanned (r .entries ++ (read ∷ []))

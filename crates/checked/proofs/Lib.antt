@@ -1,3 +1,2 @@
-pub mod Tables
 pub mod Growing
 pub mod Accepted

@@ -9,11 +9,11 @@ use Rattle.laws.proofs.Tests.{leb-cases, eqb-cases}
 use Rattle.wal_position.specs.Checks.{logCheck, unless}
 use Rattle.wal_position.proofs.Checks.{unless-passed}
 use Rattle.wal_reader.specs.Entries.{Entry}
-use Rattle.wal.specs.Walk.{Walk, walkAt}
+use Rattle.wal.specs.Walk.{Stop, Walk, walkAt}
 use Rattle.committee.specs.Committee.{committeeCheck}
 use Rattle.replay.specs.Items.{Item, Classified, refuse, item, classify, ReplayEntry, blockIn}
 use Rattle.replay.specs.Rules.{blocks, pending, unprocessed, committed, index}
-use Rattle.replay.specs.Recovery.{Lent, refused, recovered, Scanned, scan, refusedAt, blockCheck, rowsCheck, entryCheck, replayed, recover}
+use Rattle.replay.specs.Recovery.{Lent, Recovery, refused, recovered, Scanned, scan, refusedAt, blockCheck, rowsCheck, entryCheck, replayed, recover}
 use Rattle.state.proofs.Checks.{check-classified, check-block, check-full, check-passes, rows-pass, pending-full, unprocessed-full, committed-full, index-full}
 use Rattle.replay_log.proofs.Scanning.{concluded, replayedFrom, replayed-whole}
 use Rattle.durable.specs.Durable.{AtLeast, LargerTables, OtherTables}
@@ -118,6 +118,18 @@ larger-tables k s used size own lent more larger enough =
     ∙ unless-passed (λ n. refused n 0) (replayed size own lent (walkAt k s used 0 0)) (committeeCheck size own) committee
     ∙ full))))
 
+-- no recovery that is not refused is refused with 15
+module _ (k : ℕ) (s : List ℕ) (used size own : ℕ) (lent : Lent) {word : Stop} {e : ℕ} {l : List ReplayEntry}
+    (h : recover k s used size own lent ≡ recovered word e l) where
+  not-full : (p : ℕ) → recover k s used size own lent ≡ refused 15 p → ⊥
+  not-full p full =
+      let no : recovered word e l ≡ refused 15 p = sym h ∙ full in
+      let z : _≡_ {A = ℕ} 0 1 = cc in
+      omega arith
+
+  pub served-larger : (more : Lent) → AtLeast lent more → recover k s used size own more ≡ recovered word e l
+  served-larger more larger = larger-tables k s used size own lent more larger not-full ∙ h
+
 -- ---- Other tables
 
 -- at least as large as both
@@ -139,16 +151,11 @@ second-fits a b = record { pending = omega arith; unprocessed = omega arith; com
 pub other-tables : OtherTables
 other-tables k L s size own lent word l given t used h other =
     let more : Lent = both lent other in
-    let again = larger-tables k s L size own lent more (first-fits lent other)
-    (λ p full. let no : recovered word L l ≡ refused 15 p = sym given ∙ full in let z : _≡_ {A = ℕ} 0 1 = cc in omega arith) ∙ given in
-    let at = durability k L s size own more word l again t used h in
+    let at = durability k L s size own more word l (served-larger k s L size own lent given more (first-fits lent other)) t used h in
     record {
       recovers =
           λ w e m is.
-          let served = at .recovers w e m
-          (larger-tables k t used size own other more (second-fits lent other)
-          (λ p full. let no : recovered w e m ≡ refused 15 p = sym is ∙ full in let z : _≡_ {A = ℕ} 0 1 = cc in omega arith)
-          ∙ is) in
+          let served = at .recovers w e m (served-larger k t used size own other is more (second-fits lent other)) in
           (served .from, served .begins);
       recovery-refused =
           λ n p is other-than.
@@ -157,3 +164,23 @@ other-tables k L s size own lent word l given t used h other =
           (λ q full. other-than (let same : refused n p ≡ refused 15 q = sym is ∙ full in cc))
           ∙ is);
     }
+
+-- a recovery that is not refused with some tables gives the same with others, or 15
+pub same-or-full : (k : ℕ) (s : List ℕ) (used size own : ℕ) (lent other : Lent) {word : Stop} {e : ℕ} {l : List ReplayEntry}
+    → recover k s used size own lent ≡ recovered word e l
+    → (recover k s used size own other ≡ recovered word e l) ⊎ ((p : ℕ) × (recover k s used size own other ≡ refused 15 p))
+same-or-full k s used size own lent other {word} {e} {l} h = from (recover k s used size own other) refl
+  where
+    same : ((p : ℕ) → recover k s used size own other ≡ refused 15 p → ⊥) → recover k s used size own other ≡ recovered word e l
+    same enough =
+        sym (larger-tables k s used size own other (both lent other) (second-fits lent other) enough)
+        ∙ served-larger k s used size own lent h (both lent other) (first-fits lent other)
+
+    from : (x : Recovery) → recover k s used size own other ≡ x
+        → (recover k s used size own other ≡ recovered word e l) ⊎ ((p : ℕ) × (recover k s used size own other ≡ refused 15 p))
+    from (recovered w f m) is = inl (same (not-full k s used size own other is))
+    from (refused n p) is =
+        ⊎-elim
+        (λ c. inr (p, is ∙ ap (λ (m : ℕ). refused m p) (c .1)))
+        (λ c. inl (same (λ q full. c .1 (let both : refused n p ≡ refused 15 q = sym is ∙ full in cc))))
+        (eqb-cases n 15)

@@ -137,7 +137,7 @@ unfolding pick
 fifteen-else true x h = h
 fifteen-else false x h = inr refl
 
-pub rows-refused : (lent : Lent) (l : List ReplayEntry) → (rowsCheck lent l ≡ 0) ⊎ (rowsCheck lent l ≡ 15)
+rows-refused : (lent : Lent) (l : List ReplayEntry) → (rowsCheck lent l ≡ 0) ⊎ (rowsCheck lent l ≡ 15)
 unfolding rowsCheck
 rows-refused lent l =
     fifteen-else (leb (length (pending l)) (lent .pending)) _
@@ -220,7 +220,7 @@ module _ (size own : ℕ) (lent : Lent) (all : List Entry) where
 -- ---- A scan that is not refused: its entries are of that kind
 
 module _ (size own : ℕ) (lent : Lent) where
-  pub entry-fine : (before : List ReplayEntry) (a : Entry) {i : Item} → entryCheck size own lent before a ≡ item i → Fine size own before a
+  entry-fine : (before : List ReplayEntry) (a : Entry) {i : Item} → entryCheck size own lent before a ≡ item i → Fine size own before a
   entry-fine before a {i} h =
       record {
         classified =

@@ -1,7 +1,6 @@
--- A node that logs by its checked calls alone never makes a log that recovery refuses. The calls that log are the two inserts, and the
--- appends of a payload, a state and a commit; the file layer appends a payload or a commit only where its bytes decode. What is left of
--- the refusals is 15, which asks for larger tables. So whatever length of the log such a node makes durable is one at which recovery is
--- not refused, as `Durability` asks.
+-- A node that logs by its checked calls alone never makes a log that recovery refuses, except for tables that are too small (15). The
+-- calls that log are the two inserts, and the appends of a payload, a state and a commit; a payload or a commit is appended only where
+-- its bytes decode. So whatever length of the log such a node makes durable is one at which recovery is not refused, as `Durability` asks.
 use mathlib.Core.Path.{_≡_}
 use mathlib.Core.Logic.{_⊎_}
 use mathlib.Core.List.{List}

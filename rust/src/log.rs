@@ -222,7 +222,8 @@ impl<B: AsRef<[u8]>> Log<B> {
 
 impl<B: AsRef<[u8]> + AsMut<[u8]>> Log<B> {
     /// Appends an entry as it is given and answers its position. A refused append changes nothing. What the payload holds is not looked
-    /// at: recovery refuses a log with a tag that is not 1 to 5, or with a payload that its tag does not allow.
+    /// at: recovery refuses a log with a tag that is not 1 to 5, with a payload that its tag does not allow, with a block of an authority
+    /// outside the committee, or with a second own block in a round.
     pub fn append_raw(&mut self, tag: u32, payload: &[u8]) -> Result<WalPosition, Refusal> {
         let mut answer = [0; 3];
         served(ffi::append(self.k, self.used, self.image.as_mut(), tag, payload, &mut answer))?;

@@ -73,7 +73,7 @@ impl<B> BlockStore<B> {
         &self.log
     }
 
-    /// The log, given back.
+    /// The log, given back; it ends with its last entry, whatever was unread behind it.
     pub fn into_log(self) -> Log<B> {
         self.log
     }

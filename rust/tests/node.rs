@@ -310,7 +310,10 @@ fn looking_changes_nothing() {
     let look = Look::at(&path, None).unwrap();
     let settings = *look.settings().unwrap();
     assert_eq!((settings.exponent, settings.committee_size, settings.own, settings.known), (10, 4, 0, bytes.len() as u64));
-    assert_eq!(look.log().walk().unwrap().stop, Stop::End);
+    let mut entries = look.entries_from(WalPosition(0)).unwrap();
+    assert_eq!((entries.by_ref().filter(|e| e.is_ok()).count(), entries.stop()), (7, Some(Stop::End)));
+    assert_eq!(look.read(WalPosition(bytes.len() as u64)).unwrap().1, b"unsynced");
+    assert_eq!(look.read(WalPosition::MAX).unwrap_err().refusal(), Some(Refusal::PastUsed));
     let plan = look.plan(&Options::recorded(&settings)).unwrap();
     assert_eq!(plan.recovered.end().0, node.log().used());
     assert!(matches!(Look::at(folder.file("none"), None), Err(Error::Io { .. })));

@@ -3,7 +3,7 @@ use super::error::Error;
 use super::node_file::sync_folder;
 use super::Aside;
 use std::fs::{File, OpenOptions, TryLockError};
-use std::io::{self, Read, Write};
+use std::io::{self, Write};
 use std::os::unix::fs::FileExt;
 use std::path::{Path, PathBuf};
 use std::time::{SystemTime, UNIX_EPOCH};
@@ -59,19 +59,24 @@ impl LogFile {
         &self.path
     }
 
-    fn len(&self) -> Result<u64, Error> {
+    pub fn len(&self) -> Result<u64, Error> {
         Ok(self.file.metadata().map_err(Error::io("look at", &self.path))?.len())
     }
 
     /// The whole file.
     pub fn read(&self) -> Result<Vec<u8>, Error> {
-        let len = self.len()?;
+        self.read_at(0, self.len()?)
+    }
+
+    /// So many bytes from a place on.
+    pub fn read_at(&self, at: u64, len: u64) -> Result<Vec<u8>, Error> {
         let read = || {
-            let mut image = Vec::new();
+            let mut bytes = Vec::new();
             let room = usize::try_from(len).map_err(|_| io::ErrorKind::OutOfMemory)?;
-            image.try_reserve_exact(room).map_err(|_| io::ErrorKind::OutOfMemory)?;
-            (&self.file).take(len).read_to_end(&mut image)?;
-            Ok(image)
+            bytes.try_reserve_exact(room).map_err(|_| io::ErrorKind::OutOfMemory)?;
+            bytes.resize(room, 0);
+            self.file.read_exact_at(&mut bytes, at)?;
+            Ok(bytes)
         };
         read().map_err(Error::io("read", &self.path))
     }

@@ -2,14 +2,17 @@
 use super::error::Error;
 use super::log_file::LogFile;
 use super::node_file::NodeFile;
+use super::regions::{self, FileEntries};
 use super::{Aside, Options, Plan, Settings};
-use crate::{Log, WalPosition};
+use crate::{Entry, Log, WalPosition};
 use std::path::Path;
 
-/// A log's file as it was when it was read. Nothing is locked and nothing changes.
+/// A log's file, as long as it was when it was opened. Nothing is locked and nothing changes.
 #[derive(Debug)]
 pub struct Look {
-    log: Log<Vec<u8>>,
+    file: LogFile,
+    k: u64,
+    used: u64,
     settings: Option<Settings>,
 }
 
@@ -26,7 +29,7 @@ pub struct Cut {
 }
 
 impl Look {
-    /// Reads a log and, where it is there, its node file. Without one the exponent must be given; with one, another is refused. With an
+    /// Opens a log and, where it is there, reads its node file. Without one the exponent must be given; with one, another is refused. With an
     /// exponent a node file that cannot be used counts as none.
     pub fn at(path: impl AsRef<Path>, exponent: Option<u64>) -> Result<Self, Error> {
         let path = path.as_ref();
@@ -37,14 +40,27 @@ impl Look {
         };
         let settings = node_file.map(|f| f.settings());
         let k = exponent_of(settings.as_ref(), exponent)?;
-        let image = file.read()?;
-        let used = image.len() as u64;
-        Ok(Self { log: Log::new(k, image, used), settings })
+        let used = file.len()?;
+        Ok(Self { file, k, used, settings })
     }
 
-    /// The log, of all bytes of the file.
-    pub fn log(&self) -> &Log<Vec<u8>> {
-        &self.log
+    /// The file's length.
+    pub fn used(&self) -> u64 {
+        self.used
+    }
+
+    /// The entries from the log's start or another entry's end on. One region of the file is in memory at a time.
+    pub fn entries_from(&self, end: WalPosition) -> Result<FileEntries<'_>, Error> {
+        FileEntries::new(&self.file, self.k, self.used, end)
+    }
+
+    /// The entry at a position, and its payload. Its region alone is read.
+    pub fn read(&self, position: WalPosition) -> Result<(Entry, Vec<u8>), Error> {
+        Log::new(self.k, [], 0).walk()?;
+        let base = position.0 >> self.k << self.k;
+        let region = regions::region(&self.file, self.k, self.used, base)?;
+        let entry = region.read(WalPosition(position.0 - base))?;
+        Ok((Entry { position, ..entry }, region.image()[entry.payload()].to_vec()))
     }
 
     /// What the node file says, where there is one.
@@ -52,11 +68,12 @@ impl Look {
         self.settings.as_ref()
     }
 
-    /// What a node that opens this log would believe. The committee and the own authority of a log without a node file must be given.
-    pub fn plan(self, options: &Options) -> Result<Plan, Error> {
-        let settings = self.settings.unwrap_or(options.settings(self.log.k(), 0));
+    /// What a node that opens this log would believe. The committee and the own authority of a log without a node file must be given. The
+    /// whole file is read.
+    pub fn plan(&self, options: &Options) -> Result<Plan, Error> {
+        let settings = self.settings.unwrap_or(options.settings(self.k, 0));
         options.check(&settings)?;
-        Plan::of(self.log.into_image(), &settings)
+        Plan::of(self.file.read_at(0, self.used)?, &settings)
     }
 }
 

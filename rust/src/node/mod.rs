@@ -4,11 +4,13 @@ mod log_file;
 mod look;
 mod node_file;
 mod plan;
+mod regions;
 
 pub use error::Error;
 pub use look::{Cut, Look};
 pub use node_file::Settings;
 pub use plan::Plan;
+pub use regions::FileEntries;
 
 use crate::records::{is_commit, is_payload};
 use crate::{BlockStore, Log, Recovered, Refusal, RefusedAt, WalPosition};

@@ -1,6 +1,6 @@
 use crate::arguments::{Arguments, HELP};
 use crate::{dump, say, Failure, Status};
-use kadzhomir::{Cut, Entries, Error, Log, Look, Node, Pending, Plan, RefusedAt, WalPosition};
+use kadzhomir::{Cut, Entry, Error, Look, Node, Pending, Plan, RefusedAt, WalPosition};
 use std::io::{self, IsTerminal, Write};
 use std::time::{Duration, Instant};
 
@@ -26,8 +26,8 @@ fn look(arguments: &Arguments) -> Result<Look, Failure> {
 /// Where a listing begins: within the log.
 fn from(arguments: &Arguments, look: &Look) -> Result<WalPosition, Failure> {
     let from = arguments.from.unwrap_or_default();
-    if from.0 > look.log().used() {
-        return Err(Failure::Usage(format!("--from {from} is past the log's end, {}", look.log().used())));
+    if from.0 > look.used() {
+        return Err(Failure::Usage(format!("--from {from} is past the log's end, {}", look.used())));
     }
     Ok(from)
 }
@@ -41,25 +41,36 @@ enum Ending {
 }
 
 /// Walks with a progress line on a terminal, and hands on each entry.
-fn walk(log: &Log<Vec<u8>>, from: WalPosition, mut each: impl FnMut(&kadzhomir::Entry) -> io::Result<()>) -> Result<Ending, Failure> {
-    let mut entries: Entries = log.entries_from(from);
-    let mut progress = Progress::new(log.used());
+fn walk(look: &Look, from: WalPosition, mut each: impl FnMut(&Entry) -> io::Result<()>) -> Result<Ending, Failure> {
+    let mut entries = match look.entries_from(from) {
+        Ok(entries) => entries,
+        Err(error) => return refused_at(error),
+    };
+    let mut progress = Progress::new(look.used());
     while let Some(step) = entries.next() {
         match step {
             Ok(entry) => each(&entry)?,
-            Err(refused) => return Ok(Ending::Refused(refused)),
+            Err(error) => return refused_at(error),
         }
         progress.tell(entries.end().0);
     }
     let stop = entries.stop().unwrap_or(kadzhomir::Stop::Zeros);
-    Ok(Ending::Stopped { stop, end: entries.end(), unread: log.used().saturating_sub(entries.end().0) })
+    Ok(Ending::Stopped { stop, end: entries.end(), unread: look.used() - entries.end().0 })
+}
+
+/// The end of a walk that was refused.
+fn refused_at(error: Error) -> Result<Ending, Failure> {
+    match error {
+        Error::Refused { refusal, start: Some(start) } => Ok(Ending::Refused(RefusedAt { refusal, start })),
+        error => Err(error.into()),
+    }
 }
 
 /// The listing of the specification, to the byte.
 fn list(arguments: &Arguments, out: &mut impl Write) -> Result<Status, Failure> {
     let look = look(arguments)?;
-    let line = |e: &kadzhomir::Entry| writeln!(out, "{} {} {} {:08x}", e.position, e.tag, e.len, e.checksum);
-    let ending = walk(look.log(), from(arguments, &look)?, line)?;
+    let line = |e: &Entry| writeln!(out, "{} {} {} {:08x}", e.position, e.tag, e.len, e.checksum);
+    let ending = walk(&look, from(arguments, &look)?, line)?;
     if let Ending::Refused(RefusedAt { refusal, .. }) = ending {
         writeln!(out, "REFUSED {}", refusal.number())?;
         return Ok(Status::Damaged);
@@ -69,7 +80,7 @@ fn list(arguments: &Arguments, out: &mut impl Write) -> Result<Status, Failure> 
 
 fn verify(arguments: &Arguments, out: &mut impl Write) -> Result<Status, Failure> {
     let look = look(arguments)?;
-    let ending = walk(look.log(), WalPosition(0), |_| Ok(()))?;
+    let ending = walk(&look, WalPosition(0), |_| Ok(()))?;
     if let Ending::Refused(RefusedAt { refusal, start }) = ending {
         writeln!(out, "REFUSED {} {start}", refusal.number())?;
     }
@@ -104,8 +115,8 @@ fn judged(look: &Look, ending: &Ending, out: &mut impl Write) -> Result<Status, 
 fn recover(arguments: &Arguments, out: &mut impl Write) -> Result<Status, Failure> {
     let look = look(arguments)?;
     let options = arguments.options(look.settings())?;
-    if look.log().used() >= LONG && io::stderr().is_terminal() {
-        say(format_args!("recovering {} bytes ..", look.log().used()));
+    if look.used() >= LONG && io::stderr().is_terminal() {
+        say(format_args!("recovering {} bytes ..", look.used()));
     }
     match look.plan(&options) {
         Ok(plan) => believed(&plan, out),

@@ -1,6 +1,6 @@
 //! An entry, decoded, a field to a line.
 use crate::{Failure, Status};
-use kadzhomir::{Block, BlockReference, Commit, Entry, Error, Look, OwnBlock, Payload, Statement, TransactionLocator, Vote, WalPosition};
+use kadzhomir::{Block, BlockReference, Commit, Entry, Look, OwnBlock, Payload, Statement, TransactionLocator, Vote, WalPosition};
 use std::io::Write;
 
 pub fn hex(bytes: &[u8]) -> String {
@@ -8,24 +8,25 @@ pub fn hex(bytes: &[u8]) -> String {
 }
 
 pub fn dump(look: &Look, position: WalPosition, out: &mut impl Write) -> Result<Status, Failure> {
-    let entry = match look.log().read(position) {
-        Ok(entry) => entry,
-        Err(refusal) => {
-            writeln!(out, "REFUSED {} {position}", refusal.number())?;
-            out.flush()?;
-            return Err(Error::from(refusal).into());
+    let (entry, payload) = match look.read(position) {
+        Ok(read) => read,
+        Err(error) => {
+            if let Some(refusal) = error.refusal() {
+                writeln!(out, "REFUSED {} {position}", refusal.number())?;
+                out.flush()?;
+            }
+            return Err(error.into());
         }
     };
     writeln!(out, "position {}\ntag {} {}\nlength {}", entry.position, entry.tag, name(entry.tag), entry.len)?;
     writeln!(out, "checksum {:08x}\nend {}", entry.checksum, entry.end())?;
-    let payload = &look.log().image()[entry.payload()];
-    match lines(&entry, payload) {
+    match lines(&entry, &payload) {
         Some(lines) => {
             lines.iter().try_for_each(|line| writeln!(out, "{line}"))?;
             Ok(Status::Sound)
         }
         None => {
-            writeln!(out, "undecoded {}", hex(payload))?;
+            writeln!(out, "undecoded {}", hex(&payload))?;
             Ok(Status::Damaged)
         }
     }

@@ -1,12 +1,12 @@
 //! What a crash can leave of a log's file: nothing that was acknowledged is lost, and the node starts each time.
 mod common;
 
-use common::{block, listed, own_block, payload, Folder, Listed, Random};
+use common::{block, example, listed, own_block, payload, Folder, Listed, Random};
 use kadzhomir::{Node, Options};
 use std::fs;
 use std::io::{BufRead, BufReader, Write};
 use std::path::{Path, PathBuf};
-use std::process::{Child, Command, Stdio};
+use std::process::{Child, Stdio};
 use std::time::Duration;
 
 const K: u64 = 10;
@@ -170,14 +170,9 @@ fn whatever_the_bytes_a_node_starts() {
     }
 }
 
-/// The example node beside the tool.
-fn example() -> PathBuf {
-    Path::new(env!("CARGO_BIN_EXE_kadzhomir")).with_file_name("examples").join("node")
-}
-
-/// Starts it, so that it creates its log where a kill left none, or half of one.
+/// Starts the example node, so that it creates its log where a kill left none, or half of one.
 fn spawn(path: &Path) -> Child {
-    let mut node = Command::new(example());
+    let mut node = example(env!("CARGO_BIN_EXE_kadzhomir"));
     if !beside(path).exists() {
         node.arg("--create");
     }

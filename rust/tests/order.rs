@@ -3,7 +3,7 @@
 //! moment must be found.
 mod common;
 
-use common::{listed, payload, Folder, Random};
+use common::{example, listed, payload, Folder, Random};
 use kadzhomir::{Look, Node, Options};
 use std::collections::BTreeMap;
 use std::fs;
@@ -130,7 +130,7 @@ impl Disk {
 
 /// Runs the example under the recorder, on cards `card FIRST` to `card LAST - 1`.
 fn run(recorder: &Path, log: &Path, trace: &Path, cards: std::ops::Range<usize>, fault: Option<(&str, usize)>) {
-    let mut node = Command::new(Path::new(env!("CARGO_BIN_EXE_kadzhomir")).with_file_name("examples").join("node"));
+    let mut node = example(env!("CARGO_BIN_EXE_kadzhomir"));
     if !log.with_extension("log.node").exists() {
         node.arg("--create");
     }
@@ -138,7 +138,7 @@ fn run(recorder: &Path, log: &Path, trace: &Path, cards: std::ops::Range<usize>,
     if let Some((name, at)) = fault {
         node.env(name, at.to_string());
     }
-    let mut node = node.stdin(Stdio::piped()).stdout(Stdio::null()).stderr(Stdio::null()).spawn().expect("plain `cargo test` builds it");
+    let mut node = node.stdin(Stdio::piped()).stdout(Stdio::null()).stderr(Stdio::null()).spawn().unwrap();
     let mut input = node.stdin.take().unwrap();
     // Until it is killed.
     let _ = cards.into_iter().try_for_each(|n| writeln!(input, "card {n}"));

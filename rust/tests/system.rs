@@ -1,23 +1,19 @@
 //! What the system can refuse: a file that another process has, that may not be written, that has no more room.
 mod common;
 
-use common::{listed, payload, Folder};
+use common::{example, listed, payload, Folder};
 use kadzhomir::{Error, Node, Options};
 use std::fs;
 use std::io::{ErrorKind, Write};
 use std::os::unix::fs::{MetadataExt, PermissionsExt};
 use std::os::unix::process::CommandExt;
-use std::path::{Path, PathBuf};
+use std::path::Path;
 use std::process::{Command, Output, Stdio};
 
 const TOOL: &str = env!("CARGO_BIN_EXE_kadzhomir");
 
 fn options() -> Options {
     Options::new(4, 0).exponent(10)
-}
-
-fn example() -> PathBuf {
-    Path::new(TOOL).with_file_name("examples").join("node")
 }
 
 fn text(bytes: &[u8]) -> String {
@@ -34,7 +30,7 @@ fn a_second_process_is_kept_out() {
     let cut = Command::new(TOOL).arg("cut").arg(&path).output().unwrap();
     assert_eq!((cut.status.code(), text(&cut.stdout)), (Some(74), String::new()));
     assert!(text(&cut.stderr).contains("another process"), "{}", text(&cut.stderr));
-    let second = Command::new(example()).arg(&path).stdin(Stdio::null()).output().unwrap();
+    let second = example(TOOL).arg(&path).stdin(Stdio::null()).output().unwrap();
     assert!(!second.status.success() && second.stdout.is_empty());
     // Looking is allowed.
     let list = Command::new(TOOL).arg("list").arg(&path).output().unwrap();
@@ -89,7 +85,12 @@ fn a_file_that_may_not_grow() {
     // 16 blocks of 512 bytes, as much as the node file has; a write past them fails, as on a full disk.
     let limited = "trap '' XFSZ; ulimit -f 16; exec \"$0\" --create \"$1\"";
     let mut node = Command::new("sh");
-    node.args(["-c", limited]).arg(example()).arg(&path).stdin(Stdio::piped()).stdout(Stdio::piped()).stderr(Stdio::piped());
+    node.args(["-c", limited])
+        .arg(example(TOOL).get_program())
+        .arg(&path)
+        .stdin(Stdio::piped())
+        .stdout(Stdio::piped())
+        .stderr(Stdio::piped());
     let mut node = node.spawn().unwrap();
     let mut input = node.stdin.take().unwrap();
     // Until the node gives up.

@@ -2,10 +2,8 @@
 //! its own. tests/regions.rs holds it against the walk over the whole log.
 use super::error::Error;
 use super::log_file::LogFile;
+use super::MOST;
 use crate::{Entry, Log, Refusal, RefusedAt, Stop, WalPosition};
-
-/// The log's greatest length.
-const MOST: u64 = 1 << 40;
 
 /// The entries of a log's file, from some E on, up to where a walk stops or is refused.
 #[derive(Debug)]

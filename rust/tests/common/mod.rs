@@ -3,6 +3,7 @@
 
 use kadzhomir::{Log, RefusedAt};
 use std::path::{Path, PathBuf};
+use std::process::Command;
 use std::sync::atomic::{AtomicU64, Ordering};
 
 /// A block without includes and statements, of digest 0.
@@ -41,6 +42,13 @@ pub fn listed(k: u64, bytes: &[u8]) -> Listed {
     let log = Log::new(k, bytes, bytes.len() as u64);
     let entries = log.entries().map_while(Result::<_, RefusedAt>::ok);
     entries.map(|e| (e.position.0, e.tag, bytes[e.payload()].to_vec())).collect()
+}
+
+/// The example node, which plain `cargo test` builds beside the tool.
+pub fn example(tool: &str) -> Command {
+    let node = Path::new(tool).with_file_name("examples").join("node");
+    assert!(node.exists(), "plain `cargo test` builds the example: {}", node.display());
+    Command::new(node)
 }
 
 /// A folder of its own, removed in the end.

@@ -32,8 +32,8 @@ ghost use Rattle.transaction.specs.Transaction.{getTransaction};
 ghost use Rattle.linked.specs.Linked.{linkedAnswer};
 ghost use Rattle.node_store.specs.Stores.{referenceOf, storeOf, recoveryNumber, resumedUsed, openedNumber, openedAfter};
 ghost use Rattle.node_log.specs.Answers.{Reads, Steps, DecodesBlock, DecodesReference};
-ghost use Rattle.node_records.specs.Answers.{DecodesStatement, DecodesPayload, DecodesOwnBlock, DecodesCommit, DecodesCommitData, EncodesWords};
-ghost use Rattle.node_records.specs.Given.{locatorOf, rangeOf, voteGiven, voteWith, blockFieldsOf};
+ghost use Rattle.node_records.specs.Answers.{DecodesStatement, DecodesPayload, DecodesOwnBlock, DecodesCommit, DecodesCommitData};
+ghost use Rattle.node_given.specs.Given.{locatorOf, rangeOf, voteGiven, voteWith, blockFieldsOf, EncodesWords};
 ghost use Rattle.node_answers.specs.Answers.{Tells, Cleans, Shows, Links};
 ghost use Rattle.node.specs.Calls.{GivesWalk, GivesRecovery, GivesAppend, GivesInsert, GivesLookup};
 use types::TransactionLocator;
@@ -568,7 +568,7 @@ pub extern "C" fn kadzhomir_encode_reference(
 {
     let x = node_store::reference_at(reference, 0);
     let encoded = encode::encode_reference(out, at, x);
-    node_records::put_encoded(answer, encoded)
+    node_given::put_encoded(answer, encoded)
 }
 
 // Encodes the statement Share of some bytes.
@@ -583,7 +583,7 @@ pub extern "C" fn kadzhomir_encode_share(
         r (now (answer .exit)) (now (out .exit)) ⌝ }
 {
     let encoded = encode::encode_share(out, at, bytes);
-    node_records::put_encoded(answer, encoded)
+    node_given::put_encoded(answer, encoded)
 }
 
 // Encodes the statement Vote: kind 0 accepts, 1 rejects, 2 rejects and names another locator.
@@ -601,8 +601,8 @@ pub extern "C" fn kadzhomir_encode_vote(
         (voteGiven kind (locatorOf (now (other .entry)))))
         r (now (answer .exit)) (now (out .exit)) ⌝ }
 {
-    let encoded = node_records::encode_vote(out, at, locator, kind, other);
-    node_records::put_encoded(answer, encoded)
+    let encoded = node_given::encode_vote(out, at, locator, kind, other);
+    node_given::put_encoded(answer, encoded)
 }
 
 // Encodes the statement VoteRange.
@@ -617,9 +617,9 @@ pub extern "C" fn kadzhomir_encode_vote_range(
         (some (statementBytes (voteRange (rangeOf (now (range .entry))))))
         r (now (answer .exit)) (now (out .exit)) ⌝ }
 {
-    let x = node_records::range_of(range);
+    let x = node_given::range_of(range);
     let encoded = encode::encode_vote_range(out, at, x);
-    node_records::put_encoded(answer, encoded)
+    node_given::put_encoded(answer, encoded)
 }
 
 // Encodes a payload, of statements that are encoded one behind the other.
@@ -636,7 +636,7 @@ pub extern "C" fn kadzhomir_encode_payload(
         r (now (answer .exit)) (now (out .exit)) ⌝ }
 {
     let encoded = encode_blocks::encode_payload(out, at, statements, count);
-    node_records::put_encoded(answer, encoded)
+    node_given::put_encoded(answer, encoded)
 }
 
 // Encodes a block, of its fields and of includes and statements that are encoded one behind the other.
@@ -655,9 +655,9 @@ pub extern "C" fn kadzhomir_encode_block(
         (now (includes .entry)) (now (statements .entry))))
         r (now (answer .exit)) (now (out .exit)) ⌝ }
 {
-    let fields = node_records::block_fields(block, signature);
+    let fields = node_given::block_fields(block, signature);
     let encoded = encode_blocks::encode_block(out, at, fields, includes, statements);
-    node_records::put_encoded(answer, encoded)
+    node_given::put_encoded(answer, encoded)
 }
 
 // Encodes an own block: the next entry, and a block that is encoded already.
@@ -674,7 +674,7 @@ pub extern "C" fn kadzhomir_encode_own_block(
         r (now (answer .exit)) (now (out .exit)) ⌝ }
 {
     let encoded = encode_commits::encode_own_block(out, at, WalPosition(next_entry), block);
-    node_records::put_encoded(answer, encoded)
+    node_given::put_encoded(answer, encoded)
 }
 
 // Encodes an element of a commit's list: a leader and its sub-dag, of references that are encoded one behind the
@@ -695,7 +695,7 @@ pub extern "C" fn kadzhomir_encode_commit_data(
 {
     let x = node_store::reference_at(leader, 0);
     let encoded = encode_commits::encode_commit_data(out, at, x, sub_dag, count);
-    node_records::put_encoded(answer, encoded)
+    node_given::put_encoded(answer, encoded)
 }
 
 // Encodes a commit, of the elements of its list, encoded one behind the other, and of the committed state.
@@ -713,7 +713,7 @@ pub extern "C" fn kadzhomir_encode_commit(
         r (now (answer .exit)) (now (out .exit)) ⌝ }
 {
     let encoded = encode_commits::encode_commit(out, at, commits, count, state);
-    node_records::put_encoded(answer, encoded)
+    node_given::put_encoded(answer, encoded)
 }
 
 // The CRC-32 of some bytes.

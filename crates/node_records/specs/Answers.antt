@@ -1,8 +1,6 @@
 -- The words of each decoded record but blocks and references (node_log), in the order in which they are put: what is missing is zeros, and
--- all words are zero where there is no record (proofs/Records.antt). And those of an encoder's answer.
-use mathlib.Core.Path.{_≡_}
+-- all words are zero where there is no record (proofs/Records.antt).
 use mathlib.Core.List.{List, [], _∷_, _++_}
-use mathlib.Core.Option.{Option}
 use Prim.Native.Nat.{ℕ}
 use Rattle.bincode.specs.declared.Part.{Part}
 use Rattle.bincode.specs.declared.Part.the-variants.{Bad as Part·Bad, Got as Part·Got}
@@ -18,9 +16,6 @@ use Rattle.commits.specs.declared.DecodedOwnBlock.{DecodedOwnBlock}
 use Rattle.commits.specs.declared.Commit.{Commit}
 use Rattle.commits.specs.declared.Commit.the-variants.{Bad as Commit·Bad, Got as Commit·Got}
 use Rattle.commits.specs.declared.DecodedCommitData.{DecodedCommitData}
-use Rattle.encode.specs.declared.Encoded.{Encoded}
-use Rattle.encode.specs.declared.Encoded.the-variants.{End, NoRoom, Malformed}
-use Rattle.encode.specs.Encoding.{answerAt, encodedAt}
 use Rattle.index.specs.Keys.{keyWords}
 use Rattle.node_words.specs.Words.{flag}
 use Rattle.node_log.specs.Answers.{Gives, blockWords}
@@ -97,18 +92,3 @@ commitDataWords d =
 
 abbrev pub DecodesCommitData : DecodedCommitData → ℕ → List ℕ → Type 0
 DecodesCommitData d n a = Gives 0 (commitDataWords d) n a
-
--- ---- Encoders
-
--- 1 and the place behind the record; 0 where what was given is none; 2 where it does not fit
-unfoldable pub encodedWords : Encoded → List ℕ
-encodedWords (End end) = 1 ∷ end ∷ []
-encodedWords Malformed = 0 ∷ 0 ∷ []
-encodedWords NoRoom = 2 ∷ 0 ∷ []
-
--- An encoder is given the bytes to write at a place, or none where what its caller gave is no record. It answers the number n, which is
--- always 0, and the words a, and leaves `after` in the buffer `out` that it is lent: `Encodes` of the crate encode, with the answer as words.
-pub record EncodesWords (out : List ℕ) (at : ℕ) (v : Option (List ℕ)) (n : ℕ) (a after : List ℕ) : Type 0 where
-  pub number : n ≡ 0
-  pub words : a ≡ encodedWords (answerAt out at v)
-  pub bytes : after ≡ encodedAt out at v

@@ -1,8 +1,8 @@
--- `node_records::range_of` meets its contract: the reference, the start and the end. Assumes nothing.
+-- `node_given::range_of` meets its contract: the reference, the start and the end. Assumes nothing.
 use borrow.Author.Needs.{needs}
-use Rattle.node_records.specs.Given.{rangeOf}
-use Rattle.node_records.proofs.range_of.Statement.{statement}
-use Rattle.node_records.proofs.range_of.Tie as tie
+use Rattle.node_given.specs.Given.{rangeOf}
+use Rattle.node_given.proofs.range_of.Statement.{statement}
+use Rattle.node_given.proofs.range_of.Tie as tie
 
 reference-at-requires : tie.Need-reference-at-requires
 reference-at-requires c κs = search needs

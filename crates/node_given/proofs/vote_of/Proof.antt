@@ -1,10 +1,10 @@
--- `node_records::vote_of` meets its contract: the vote of each kind. Assumes nothing.
-use Rattle.node_records.proofs.vote_of.Statement.{statement}
+-- `node_given::vote_of` meets its contract: the vote of each kind. Assumes nothing.
+use Rattle.node_given.proofs.vote_of.Statement.{statement}
 use borrow.Author.Tests.{eq-eqb, ne-eqb}
 use native.Mathlib.Omega.{arith}
 use Rattle.laws.specs.Pick.{pick}
-use Rattle.node_records.specs.Given.{voteGiven}
-use Rattle.node_records.proofs.vote_of.Tie as tie
+use Rattle.node_given.specs.Given.{voteGiven}
+use Rattle.node_given.proofs.vote_of.Tie as tie
 
 returns : tie.Need-returns
 unfolding voteGiven pick

@@ -1,8 +1,8 @@
--- `node_records::locator_of` meets its contract: the reference, and the offset. Assumes nothing.
+-- `node_given::locator_of` meets its contract: the reference, and the offset. Assumes nothing.
 use borrow.Author.Needs.{needs}
-use Rattle.node_records.specs.Given.{locatorOf}
-use Rattle.node_records.proofs.locator_of.Statement.{statement}
-use Rattle.node_records.proofs.locator_of.Tie as tie
+use Rattle.node_given.specs.Given.{locatorOf}
+use Rattle.node_given.proofs.locator_of.Statement.{statement}
+use Rattle.node_given.proofs.locator_of.Tie as tie
 
 reference-at-requires : tie.Need-reference-at-requires
 reference-at-requires c κs = search needs

@@ -1,11 +1,11 @@
--- `node_records::encode_vote` meets its contract: a kind that there is makes a vote. Assumes nothing.
+-- `node_given::encode_vote` meets its contract: a kind that there is makes a vote. Assumes nothing.
 use borrow.Author.Needs.{needs}
 use native.Mathlib.Omega.{arith}
 use Rattle.encode.proofs.Encodings.{malformed}
-use Rattle.node_records.specs.Given.{locatorOf}
-use Rattle.node_records.proofs.Encoding.{no-vote}
-use Rattle.node_records.proofs.encode_vote.Statement.{statement}
-use Rattle.node_records.proofs.encode_vote.Tie as tie
+use Rattle.node_given.specs.Given.{locatorOf}
+use Rattle.node_given.proofs.Encoding.{no-vote}
+use Rattle.node_given.proofs.encode_vote.Statement.{statement}
+use Rattle.node_given.proofs.encode_vote.Tie as tie
 
 returns : tie.Need-returns
 returns c =

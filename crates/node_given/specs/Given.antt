@@ -1,5 +1,6 @@
--- The records that a caller gives an encoder as words.
-use mathlib.Core.List.{List}
+-- The records that a caller gives an encoder as words, and the words of an encoder's answer.
+use mathlib.Core.Path.{_≡_}
+use mathlib.Core.List.{List, [], _∷_}
 use mathlib.Core.Option.{Option, none, some}
 use Prim.Native.Nat.{ℕ}
 use lib.Dec.{eqb}
@@ -8,6 +9,9 @@ use Rattle.laws.specs.Pick.{pick}
 use Rattle.types.specs.declared.TransactionLocator.{TransactionLocator}
 use Rattle.types.specs.declared.TransactionLocatorRange.{TransactionLocatorRange}
 use Rattle.types.specs.Records.{VoteValue, accept, reject, voteOn, statementBytes}
+use Rattle.encode.specs.declared.Encoded.{Encoded}
+use Rattle.encode.specs.declared.Encoded.the-variants.{End, NoRoom, Malformed}
+use Rattle.encode.specs.Encoding.{answerAt, encodedAt}
 use Rattle.encode_blocks.specs.declared.BlockFields.{BlockFields}
 use Rattle.node_store.specs.Stores.{flagged, referenceOf}
 
@@ -43,3 +47,18 @@ blockFieldsOf w signature =
       «epoch_marker» = flagged (getD w 10 0);
       signature = record { 0 = signature };
     }
+
+-- ---- What an encoder answers
+
+-- 1 and the place behind the record; 0 where what was given is none; 2 where it does not fit
+unfoldable pub encodedWords : Encoded → List ℕ
+encodedWords (End end) = 1 ∷ end ∷ []
+encodedWords Malformed = 0 ∷ 0 ∷ []
+encodedWords NoRoom = 2 ∷ 0 ∷ []
+
+-- An encoder is given the bytes to write at a place, or none where what its caller gave is no record. It answers the number n, which is
+-- always 0, and the words a, and leaves `after` in the buffer `out` that it is lent: `Encodes` of the crate encode, with the answer as words.
+pub record EncodesWords (out : List ℕ) (at : ℕ) (v : Option (List ℕ)) (n : ℕ) (a after : List ℕ) : Type 0 where
+  pub number : n ≡ 0
+  pub words : a ≡ encodedWords (answerAt out at v)
+  pub bytes : after ≡ encodedAt out at v

@@ -1,9 +1,9 @@
--- `node_records::block_fields` meets its contract: field by field. Assumes nothing.
+-- `node_given::block_fields` meets its contract: field by field. Assumes nothing.
 use borrow.Author.Needs.{needs}
 use Rattle.node_store.specs.Stores.{flagged}
-use Rattle.node_records.specs.Given.{blockFieldsOf}
-use Rattle.node_records.proofs.block_fields.Statement.{statement}
-use Rattle.node_records.proofs.block_fields.Tie as tie
+use Rattle.node_given.specs.Given.{blockFieldsOf}
+use Rattle.node_given.proofs.block_fields.Statement.{statement}
+use Rattle.node_given.proofs.block_fields.Tie as tie
 
 reference-at-requires : tie.Need-reference-at-requires
 reference-at-requires c κs = search needs

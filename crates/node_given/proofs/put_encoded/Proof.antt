@@ -1,9 +1,9 @@
--- `node_records::put_encoded` meets its contract: the words of each answer. Assumes nothing.
+-- `node_given::put_encoded` meets its contract: the words of each answer. Assumes nothing.
 use borrow.Author.Needs.{needs}
 use mathlib.Core.Path.{refl, sym, ap}
-use Rattle.node_records.specs.Answers.{encodedWords}
-use Rattle.node_records.proofs.put_encoded.Statement.{statement}
-use Rattle.node_records.proofs.put_encoded.Tie as tie
+use Rattle.node_given.specs.Given.{encodedWords}
+use Rattle.node_given.proofs.put_encoded.Statement.{statement}
+use Rattle.node_given.proofs.put_encoded.Tie as tie
 
 enum-known-encoded : tie.Need-enum-known-encoded
 enum-known-encoded c = search needs

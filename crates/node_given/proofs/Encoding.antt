@@ -14,8 +14,8 @@ use Rattle.index.specs.Keys.{Digested, keyWords, digestWords}
 use Rattle.node_store.specs.Stores.{referenceAt, digestAt}
 use Rattle.node_store.proofs.RoundTrip.{reference-back}
 use Rattle.node_log.specs.Answers.{Gives}
-use Rattle.node_records.specs.Answers.{locatorWords, rangeWords, encodedWords, EncodesWords}
-use Rattle.node_records.specs.Given.{locatorOf, rangeOf, voteGiven}
+use Rattle.node_records.specs.Answers.{locatorWords, rangeWords}
+use Rattle.node_given.specs.Given.{locatorOf, rangeOf, voteGiven, encodedWords, EncodesWords}
 
 -- an encoder's answer, put as words
 pub encodes-words : {out : List ℕ} {at : ℕ} {v : Option (List ℕ)} {r : Encoded} {after : List ℕ} {n : ℕ} {a : List ℕ}

@@ -1,4 +1,5 @@
--- A node that logs by its checked calls alone never makes a log that recovery refuses, except for tables that are too small (15). The
+-- A node starts from an empty log, or from one that recovery accepted, at E, with one exponent, committee and own authority throughout.
+-- If it logs by its checked calls alone, it never makes a log that recovery refuses, except for tables that are too small (15). The
 -- calls that log are the two inserts, and the appends of a payload, a state and a commit; a payload or a commit is appended only where
 -- its bytes decode. So whatever length of the log such a node makes durable is one at which recovery is not refused, as `Durability` asks.
 use mathlib.Core.Path.{_≡_}

@@ -18,6 +18,7 @@ use Rattle.state.proofs.Checks.{check-classified, check-block, check-full, chec
 use Rattle.replay_log.proofs.Scanning.{concluded, replayedFrom, replayed-whole}
 use Rattle.durable.specs.Durable.{AtLeast, LargerTables, OtherTables}
 use Rattle.durable.proofs.Scans.{scan-passes, scan-refuses}
+use Rattle.durable.proofs.Recoveries.{not-refused, recovers-to-end}
 use Rattle.durable.proofs.Durability.{durability}
 
 -- ---- Larger tables
@@ -156,7 +157,11 @@ other-tables k L s size own lent word l given t used h other =
       recovers =
           λ w e m is.
           let served = at .recovers w e m (served-larger k t used size own other is more (second-fits lent other)) in
-          (served .from, served .begins);
+          record {
+            from = served .from;
+            begins = served .begins;
+            again = recovers-to-end k t used size own other (not-refused k t used size own other is);
+          };
       recovery-refused =
           λ n p is other-than.
           at .recovery-refused n p

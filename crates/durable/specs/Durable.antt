@@ -1,7 +1,9 @@
--- Nothing that was acknowledged is lost. A node makes its log durable up to a length L, and acknowledges what lies before L. After a crash
--- the file holds the first L bytes, and behind them whatever came to the disk. Where recovery refuses that rest, the file layer cuts the
--- log at the start that the refusal names, and recovers again. `Durability` is what is proved: these cuts lie at or past L, and what is
--- recovered begins with what was recovered at L. No refusal is named by its number, except 15, at which no cut is made.
+-- Nothing that was acknowledged is lost. A node keeps its log in a file. It syncs the log up to a length L, the known length, and
+-- acknowledges what lies before L. After a crash the file holds the first L bytes, and behind them whatever came to the disk. When the log
+-- is opened and recovery refuses that rest, it is cut at the start that the refusal names, and recovered again; in the end the file itself
+-- is cut at E, before anything is appended there. `Durability` is what is proved: these cuts lie at or past L, and the entries that are
+-- recovered begin with those recovered at L. (An own block or a state behind L may still drop rows of theirs, as the rules have it; and
+-- behind L an entry that was lost may be passed over.) No refusal is named by its number, except 15, at which no cut is made.
 use mathlib.Core.Path.{_≡_}
 use mathlib.Core.Bool.{Bool, true, false}
 use mathlib.Core.List.{List, [], _∷_, _++_}
@@ -50,11 +52,11 @@ pub record Lists (k L : ℕ) (s t : List ℕ) (used : ℕ) : Type 0 where
   pub lists : walk k t used .entries ≡ walk k s L .entries ++ rest
   pub behind : AllStartFrom L rest
 
--- A recovery of t that is not refused, with E and the entries m.
+-- What holds of a recovery of t that is not refused, with E and the entries m.
 pub record Served (k L size own : ℕ) (lent : Lent) (l : List ReplayEntry) (t : List ℕ) (e : ℕ) (m : List ReplayEntry) : Type 0 where
   -- it resumes at or past L
   pub from : L ≤ e
-  -- what was recovered at L is recovered
+  -- the entries recovered at L come first
   pub begins : BeginsWith l m
   -- E is such a length as L is, for the next crash: recovery with used E stops at E and gives the same
   pub again : recover k t e size own lent ≡ recovered END e m
@@ -101,7 +103,8 @@ pub record AfterCuts : Type 0 where
   pub answer : Recovery
 
 -- One time around the loop, by what recovery gave with this used. It ends where recovery is not refused, and at 15; at any other refusal
--- it goes on with the log cut at the start that the refusal names.
+-- it goes on with the log cut at the start that the refusal names. 1, 2 and 18 are about the call, and do not arise where recovery at L
+-- was not refused.
 unfoldable pub oneCut : ℕ → (ℕ → AfterCuts) → Recovery → AfterCuts
 oneCut used goOn (recovered w e l) = record { used = used; answer = recovered w e l }
 oneCut used goOn (refused n p) = elim (asksForRows n) [ true ↦ record { used = used; answer = refused n p } | false ↦ goOn p ]
@@ -116,7 +119,7 @@ module _ (k : ℕ) (t : List ℕ) (size own : ℕ) (lent : Lent) where
   unfoldable pub cutDown : ℕ → AfterCuts
   cutDown used = cutFrom used used
 
--- what was recovered at L is recovered; or 15 is given, for an entry from L on
+-- the entries recovered at L come first; or 15 is given, for an entry from L on
 abbrev pub NothingLost : ℕ → List ReplayEntry → Recovery → Type 0
 NothingLost L l (recovered w e m) = (L ≤ e) × BeginsWith l m
 NothingLost L l (refused n p) = (n ≡ 15) × (L ≤ p)
@@ -144,7 +147,7 @@ pub record CallServed (k L size own : ℕ) (lent : Lent) (l : List ReplayEntry) 
   pub served : Served k L size own lent l t e entries
   pub answers : Answers used own (recovered word e entries) before r after
 
--- what the file layer sees: the answers of `wal::walk`, and of `recovery::recover` with tables of the size that recovery had at L
+-- the same of the answers of `wal::walk`, and of `recovery::recover` with tables of the size that recovery had at L
 pub record Called (k L : ℕ) (s : List ℕ) (size own : ℕ) (lent : Lent) (l : List ReplayEntry) (t : List ℕ) (used : ℕ) : Type 0 where
   pub walk-stopped : (v : code.Stop) (e : WalPosition) (unread : ℕ) → walkAnswer k t used ≡ Walked·Stopped v e unread → L ≤ e .0
   pub walk-refused : (n : ℕ) (p : WalPosition) → walkAnswer k t used ≡ Walked·Refused n p → CutAt k L s t used (p .0)
@@ -204,9 +207,11 @@ LargerTables =
     (k : ℕ) (s : List ℕ) (used size own : ℕ) (lent more : Lent) → AtLeast lent more
     → ((p : ℕ) → recover k s used size own lent ≡ refused 15 p → ⊥) → recover k s used size own more ≡ recover k s used size own lent
 
--- A recovery of t with whatever tables: the file layer sizes them by the log that it finds, and not by the one of L.
+-- A recovery of t with whatever tables: the file layer sizes them by the log that it finds, and not by the one of L. With too few rows 15
+-- may come before L.
 pub record WithTables (k L : ℕ) (s : List ℕ) (size own : ℕ) (l : List ReplayEntry) (t : List ℕ) (used : ℕ) (lent : Lent) : Type 0 where
-  pub recovers : (w : Stop) (e : ℕ) (m : List ReplayEntry) → recover k t used size own lent ≡ recovered w e m → (L ≤ e) × BeginsWith l m
+  pub recovers : (w : Stop) (e : ℕ) (m : List ReplayEntry) → recover k t used size own lent ≡ recovered w e m
+      → Served k L size own lent l t e m
   -- "a refusal .. of recovery other than 15 .. has a start at or past L"
   pub recovery-refused : (n p : ℕ) → recover k t used size own lent ≡ refused n p → (n ≡ 15 → ⊥) → CutAt k L s t used p
 

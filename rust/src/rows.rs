@@ -64,7 +64,8 @@ pub(crate) fn needed(view: View) -> [usize; 4] {
 fn next_entry(log: &[u8], region: usize, at: usize) -> Option<std::ops::Range<usize>> {
     let mut start = at;
     loop {
-        let left = region - start % region;
+        // A region's size is a power of two.
+        let left = region - (start & (region - 1));
         let here = left >= 16;
         if here && log.len() < start + 16 {
             return None;
@@ -82,5 +83,5 @@ fn next_entry(log: &[u8], region: usize, at: usize) -> Option<std::ops::Range<us
 }
 
 fn u32_at(bytes: &[u8], at: usize) -> u32 {
-    bytes[at..at + 4].iter().rev().fold(0, |n, b| n << 8 | u32::from(*b))
+    bytes[at..].first_chunk().map_or(0, |four| u32::from_le_bytes(*four))
 }

@@ -4,7 +4,7 @@
 mod common;
 
 use common::{example, listed, payload, Folder, Random};
-use kadzhomir::{Look, Node, Options};
+use kadzhomir::{Look, Node, Options, Refusal, WalPosition};
 use std::collections::BTreeMap;
 use std::fs;
 use std::io::Write;
@@ -160,9 +160,8 @@ fn cards(log: &[u8]) -> usize {
     payloads.enumerate().take_while(|(n, e)| e.2 == payload(format!("card {n}").as_bytes())).count()
 }
 
-/// Cuts the power behind each step, six ways, and opens what is left.
-fn cut_power_at_each(steps: &[Step], random: &mut Random, what: &str) {
-    let mut disk = Disk::default();
+/// Cuts the power behind each step, six ways, and hands on the folder that is left.
+fn each_power_cut(mut disk: Disk, steps: &[Step], random: &mut Random, mut check: impl FnMut(&Folder, &Disk, &str)) {
     for (at, step) in steps.iter().enumerate() {
         disk.step(step);
         for way in 0..6 {
@@ -172,22 +171,39 @@ fn cut_power_at_each(steps: &[Step], random: &mut Random, what: &str) {
                 1 => Reached::All,
                 _ => [Reached::Nothing, Reached::Half, Reached::All][random.below(3) as usize],
             });
-            let what = format!("{what}, behind step {at} ({step:?}), way {way}");
-            if disk.told == 0 && !folder.file("cards.log.node").exists() {
-                continue;
-            }
-            // What was told of lies before the known length, so that its loss would be seen as damage.
-            let known = Look::at(folder.file("cards.log"), Some(28)).unwrap().settings().map(|s| s.known);
-            assert!(known.is_some_and(|known| disk.told == 0 || known > disk.last), "{what}: {known:?} known, told of {}", disk.last);
-            let node = Node::open(folder.file("cards.log"), &Options::new(4, 0)).unwrap_or_else(|e| panic!("{what}: {e}")).node;
-            let found = cards(node.log().image());
-            assert!(found >= disk.told, "{what}: {found} of {} cards", disk.told);
+            check(&folder, &disk, &format!("behind step {at} ({step:?}), way {way}"));
         }
     }
 }
 
+/// Opens what is left: everything that was told is there.
+fn opens(folder: &Folder, disk: &Disk, what: &str) {
+    let log = folder.file("cards.log");
+    if disk.told == 0 && !folder.file("cards.log.node").exists() {
+        return;
+    }
+    // What was told of lies before the known length, so that its loss would be seen as damage.
+    let known = Look::at(&log, Some(28)).unwrap().settings().map(|s| s.known);
+    assert!(known.is_some_and(|known| disk.told == 0 || known > disk.last), "{what}: {known:?} known, told of {}", disk.last);
+    let node = Node::open(&log, &options()).unwrap_or_else(|e| panic!("{what}: {e}")).node;
+    let found = cards(node.log().image());
+    assert!(found >= disk.told, "{what}: {found} of {} cards", disk.told);
+}
+
+fn options() -> Options {
+    Options::new(4, 0)
+}
+
 fn recorded(trace: &Path) -> Vec<Step> {
     fs::read_to_string(trace).unwrap().lines().map(step).collect()
+}
+
+/// Appends bytes to a log as a write that was torn, and to the trace.
+fn tear(log: &Path, trace: &Path) {
+    let end = fs::metadata(log).unwrap().len();
+    fs::File::options().append(true).open(log).unwrap().write_all(b"torn").unwrap();
+    let line = format!("write {} {end} 746f726e\n", log.display());
+    fs::File::options().append(true).create(true).open(trace).unwrap().write_all(line.as_bytes()).unwrap();
 }
 
 #[test]
@@ -204,16 +220,99 @@ fn every_moment_of_a_run_that_is_killed_or_fails() {
             run(&recorder, &log, &trace, known..known + 3, None);
             let steps = recorded(&trace);
             assert!(steps.iter().any(|s| matches!(s, Step::Tell(_))), "{fault} {at}");
-            cut_power_at_each(&steps, &mut random, &format!("{fault}={at}"));
+            each_power_cut(Disk::default(), &steps, &mut random, |f, d, what| opens(f, d, &format!("{fault}={at}, {what}")));
         }
     }
+}
+
+/// A start that finds a torn log is itself killed, or fails to sync; then the next one.
+#[test]
+fn every_moment_of_a_start_that_is_killed_or_fails() {
+    let tools = Folder::on_disk();
+    let (recorder, mut random) = (recorder(&tools), Random(8));
+    for at in 0..14 {
+        for fault in ["KADZHOMIR_KILL", "KADZHOMIR_FAIL"] {
+            let folder = Folder::in_memory();
+            let (log, trace) = (folder.file("cards.log"), tools.file(&format!("{fault}-{at}")));
+            run(&recorder, &log, &trace, 0..2, None);
+            tear(&log, &trace);
+            run(&recorder, &log, &trace, 2..3, Some((fault, at)));
+            let known = cards(&fs::read(&log).unwrap());
+            run(&recorder, &log, &trace, known..known + 1, None);
+            let steps = recorded(&trace);
+            each_power_cut(Disk::default(), &steps, &mut random, |f, d, what| opens(f, d, &format!("{fault}={at}, {what}")));
+        }
+    }
+}
+
+/// The files of a folder as they are, on disk or not yet.
+fn present(folder: &Folder, synced: bool) -> Disk {
+    let mut disk = Disk::default();
+    for path in folder.files("cards.log") {
+        let bytes = fs::read(&path).unwrap();
+        let (on_disk, since) = if synced { (bytes, vec![]) } else { (vec![], vec![Step::Write(path.clone(), 0, bytes)]) };
+        disk.files.insert(path.clone(), Contents { disk: on_disk, since });
+        disk.names.push(path);
+    }
+    disk
+}
+
+/// The tool under the recorder.
+fn tool(recorder: &Path, trace: &Path, words: &[&str]) -> Vec<Step> {
+    let mut tool = Command::new(env!("CARGO_BIN_EXE_kadzhomir"));
+    tool.args(words).env("LD_PRELOAD", recorder).env("KADZHOMIR_TRACE", trace).stdout(Stdio::null());
+    assert!(tool.status().unwrap().success(), "{words:?}");
+    recorded(trace)
+}
+
+/// A log that was copied and not synced is adopted: once there is a node file, no card is missing.
+#[test]
+fn every_moment_of_an_adoption() {
+    let (tools, folder) = (Folder::on_disk(), Folder::in_memory());
+    let (recorder, log) = (recorder(&tools), folder.file("cards.log"));
+    run(&recorder, &log, &tools.file("made"), 0..5, None);
+    fs::remove_file(folder.file("cards.log.node")).unwrap();
+    let disk = present(&folder, false);
+    let words = ["adopt", log.to_str().unwrap(), "--exponent", "28", "--committee", "4", "--own", "0"];
+    let steps = tool(&recorder, &tools.file("adopted"), &words);
+    let mut opened = 0;
+    each_power_cut(disk, &steps, &mut Random(9), |folder, _, what| {
+        if folder.file("cards.log.node").exists() {
+            let node = Node::open(folder.file("cards.log"), &options()).unwrap_or_else(|e| panic!("{what}: {e}")).node;
+            assert_eq!(cards(node.log().image()), 5, "{what}");
+            opened += 1;
+        }
+    });
+    assert!(opened > 0);
+}
+
+/// A damaged log is cut: it is then served, or damaged as before.
+#[test]
+fn every_moment_of_a_cut() {
+    let (tools, folder) = (Folder::on_disk(), Folder::in_memory());
+    let (recorder, log) = (recorder(&tools), folder.file("cards.log"));
+    run(&recorder, &log, &tools.file("made"), 0..5, None);
+    let mut bytes = fs::read(&log).unwrap();
+    let third = listed(28, &bytes)[2].0;
+    bytes[third as usize + 20] ^= 1;
+    fs::write(&log, &bytes).unwrap();
+    let disk = present(&folder, true);
+    let steps = tool(&recorder, &tools.file("cut"), &["cut", log.to_str().unwrap(), "--at", &third.to_string()]);
+    let mut served = 0;
+    each_power_cut(disk, &steps, &mut Random(10), |folder, _, what| match Node::open(folder.file("cards.log"), &options()) {
+        Ok(opened) => {
+            assert_eq!(cards(opened.node.log().image()), 2, "{what}");
+            served += 1;
+        }
+        Err(error) => assert_eq!((error.refusal(), error.start()), (Some(Refusal::Checksum), Some(WalPosition(third))), "{what}: {error}"),
+    });
+    assert!(served > 0);
 }
 
 /// The recorder and the power cuts see what they are to see: a node that told of a card before it was synced.
 #[test]
 fn a_card_that_is_told_too_early_is_seen() {
-    let tools = Folder::on_disk();
-    let folder = Folder::in_memory();
+    let (tools, folder) = (Folder::on_disk(), Folder::in_memory());
     let trace = tools.file("trace");
     run(&recorder(&tools), &folder.file("cards.log"), &trace, 0..2, None);
     let mut steps = recorded(&trace);
@@ -221,6 +320,6 @@ fn a_card_that_is_told_too_early_is_seen() {
     let tell = steps.remove(told);
     // Before the sync of the log, of the four steps that acknowledge it.
     steps.insert(told - 3, tell);
-    let early = std::panic::catch_unwind(|| cut_power_at_each(&steps, &mut Random(6), "told early"));
+    let early = std::panic::catch_unwind(|| each_power_cut(Disk::default(), &steps, &mut Random(6), opens));
     assert!(early.is_err());
 }

@@ -46,7 +46,8 @@ fn a_read_only_file_is_looked_at_and_not_changed() {
     let mut node = Node::create(&path, &options()).unwrap();
     node.batch(|node| node.append_state(b"state")).unwrap();
     drop(node);
-    fs::copy(TOOL, &tool).unwrap();
+    // By another process: a file that this one has open to write cannot be run while a child is being started.
+    assert!(Command::new("cp").arg(TOOL).arg(&tool).status().unwrap().success());
     for (file, mode) in [(&path, 0o444), (&folder.file("log.node"), 0o444), (&tool, 0o755), (&folder.0, 0o555)] {
         fs::set_permissions(file, fs::Permissions::from_mode(mode)).unwrap();
     }

@@ -42,6 +42,10 @@ impl LogFile {
 
     /// Opens a log to look at it, without a lock: a node may be writing to it.
     pub fn look(path: &Path) -> Result<Self, Error> {
+        // Before it is opened: a pipe would wait for a writer.
+        if std::fs::metadata(path).is_ok_and(|data| !data.is_file()) {
+            return Err(irregular(path));
+        }
         let file = File::open(path).map_err(Error::io("open", path))?;
         Self { file, path: path.to_path_buf() }.regular()
     }
@@ -50,7 +54,7 @@ impl LogFile {
     fn regular(self) -> Result<Self, Error> {
         match self.file.metadata() {
             Ok(data) if data.is_file() => Ok(self),
-            Ok(_) => Err(Error::io("use", &self.path)(io::Error::new(io::ErrorKind::InvalidInput, "it is no regular file"))),
+            Ok(_) => Err(irregular(&self.path)),
             Err(source) => Err(Error::io("look at", &self.path)(source)),
         }
     }
@@ -126,6 +130,20 @@ impl LogFile {
             }
         }
         unreachable!("a name that is free comes before 2^64")
+    }
+}
+
+fn irregular(path: &Path) -> Error {
+    Error::io("use", path)(io::Error::new(io::ErrorKind::InvalidInput, "it is no regular file"))
+}
+
+/// Refuses a name that leaves no room for what stands behind it in the name of a file of bytes set aside.
+pub(crate) fn check_name(path: &Path) -> Result<(), Error> {
+    match path.file_name() {
+        Some(name) if name.len() > 200 => {
+            Err(Error::io("use", path)(io::Error::new(io::ErrorKind::InvalidInput, "its name has more than 200 bytes")))
+        }
+        _ => Ok(()),
     }
 }
 

@@ -14,7 +14,7 @@ pub use regions::FileEntries;
 
 use crate::records::{is_commit, is_payload};
 use crate::{BlockStore, Log, Recovered, Refusal, RefusedAt, WalPosition};
-use log_file::LogFile;
+use log_file::{check_name, LogFile};
 use node_file::{path_beside, sync_folder, NodeFile};
 use std::fmt;
 use std::path::{Path, PathBuf};
@@ -149,6 +149,7 @@ impl Node {
         let settings = options.settings(options.exponent.unwrap_or(28), 0);
         // Refuses what no log can be written with before there is one.
         let plan = Plan::of(Vec::new(), &settings)?;
+        check_name(path)?;
         refuse_node_file(path)?;
         let file = LogFile::create(path)?;
         refuse_node_file(path)?;
@@ -161,11 +162,12 @@ impl Node {
     /// Makes the node file of a log that has none, as the original's logs, and opens it. The exponent must be given: with another one
     /// than it was written with, a log may seem to end well after a few entries.
     ///
-    /// Nothing is cut: bytes behind the last whole entry are refused unless they are zero ([`Error::UnreadTail`]), and so are bytes between
+    /// Nothing is cut but zeros: bytes behind the last whole entry are refused unless they are zero ([`Error::UnreadTail`]), and so are bytes between
     /// entries ([`Error::HiddenByte`]).
     pub fn adopt(path: impl AsRef<Path>, options: &Options) -> Result<Opened, Error> {
         let path = path.as_ref();
         let settings = options.settings(options.exponent.ok_or(Error::NoExponent)?, 0);
+        check_name(path)?;
         let file = LogFile::open(path)?;
         refuse_node_file(path)?;
         let image = file.read()?;

@@ -6,7 +6,7 @@
 use super::error::Error;
 use crate::crc32;
 use std::fs::{File, OpenOptions};
-use std::io::{self, Read, Write};
+use std::io::{self, Write};
 use std::os::unix::fs::FileExt;
 use std::path::{Path, PathBuf};
 
@@ -38,6 +38,8 @@ pub(crate) struct NodeFile {
     settings: Settings,
     /// Of the newest slot; the next one goes to the other place.
     sequence: u64,
+    /// Whether the newest slot is known to be on disk, and not in the system's memory alone.
+    confirmed: bool,
 }
 
 /// The node file of a log.
@@ -69,10 +71,9 @@ impl Settings {
         Some((word(1), word(2), Self { exponent: word(3), committee_size: word(4), own: word(5), known: word(6) }))
     }
 
-    /// Of the newest whole slot.
-    fn of_file(path: &Path, bytes: &[u8]) -> Result<(u64, Self), Error> {
-        let slots = [0, PAGE as usize].iter().filter_map(|at| Self::of_slot(bytes.get(*at..*at + SLOT)?));
-        let newest = slots.max_by_key(|s| s.1);
+    /// Of the newest whole slot; a slot that cannot be read is not whole.
+    fn of_slots(path: &Path, slots: [Option<[u8; SLOT]>; 2]) -> Result<(u64, Self), Error> {
+        let newest = slots.iter().flatten().filter_map(|slot| Self::of_slot(slot)).max_by_key(|s| s.1);
         let (version, sequence, settings) = newest.ok_or_else(|| Error::BadNodeFile { path: path.to_path_buf() })?;
         if version != VERSION {
             return Err(Error::NodeFileVersion { path: path.to_path_buf(), version });
@@ -86,10 +87,12 @@ impl NodeFile {
     pub fn open(log: &Path, write: bool) -> Result<Self, Error> {
         let path = path_beside(log);
         let file = OpenOptions::new().read(true).write(write).open(&path).map_err(|source| missing(source, &path))?;
-        let mut bytes = Vec::new();
-        (&file).take(2 * PAGE).read_to_end(&mut bytes).map_err(Error::io("read", &path))?;
-        let (sequence, settings) = Settings::of_file(&path, &bytes)?;
-        Ok(Self { file, path, settings, sequence })
+        let slots = [0, PAGE].map(|at| {
+            let mut slot = [0; SLOT];
+            file.read_exact_at(&mut slot, at).is_ok().then_some(slot)
+        });
+        let (sequence, settings) = Settings::of_slots(&path, slots)?;
+        Ok(Self { file, path, settings, sequence, confirmed: false })
     }
 
     /// The same, and none where the log has no node file.
@@ -104,8 +107,10 @@ impl NodeFile {
     pub fn create(log: &Path, settings: Settings) -> Result<Self, Error> {
         let path = path_beside(log);
         let mut new = path.clone().into_os_string();
-        new.push(format!(".new-{}", std::process::id()));
+        new.push(".new");
         let new = PathBuf::from(new);
+        // What a crash in this call left; the log's lock keeps others out.
+        let _ = std::fs::remove_file(&new);
         let options = OpenOptions::new().read(true).write(true).create_new(true).clone();
         let mut file = options.open(&new).map_err(Error::io("create", &new))?;
         let mut bytes = vec![0; 2 * PAGE as usize];
@@ -116,7 +121,7 @@ impl NodeFile {
             return Err(Error::io("write", &new)(source));
         }
         sync_folder(&path)?;
-        Ok(Self { file, path, settings, sequence: 0 })
+        Ok(Self { file, path, settings, sequence: 0, confirmed: true })
     }
 
     pub fn settings(&self) -> Settings {
@@ -125,6 +130,7 @@ impl NodeFile {
 
     /// Says that the log's first `known` bytes are on disk, and returns once that is on disk itself.
     pub fn set_known(&mut self, known: u64) -> Result<(), Error> {
+        self.confirm()?;
         let sequence = self.sequence.checked_add(1).ok_or_else(|| Error::BadNodeFile { path: self.path.clone() })?;
         self.put(Settings { known, ..self.settings }, sequence)
     }
@@ -132,13 +138,16 @@ impl NodeFile {
     /// Has the newest slot on disk. A crash may have come after it was written and before it was synced; the next change goes over the
     /// other slot, which must not be the only one on disk.
     pub fn confirm(&mut self) -> Result<(), Error> {
+        if self.confirmed {
+            return Ok(());
+        }
         self.put(self.settings, self.sequence)
     }
 
     fn put(&mut self, settings: Settings, sequence: u64) -> Result<(), Error> {
         let written = self.file.write_all_at(&settings.to_slot(sequence), sequence % 2 * PAGE).and_then(|()| self.file.sync_data());
         written.map_err(Error::io("write", &self.path))?;
-        (self.settings, self.sequence) = (settings, sequence);
+        (self.settings, self.sequence, self.confirmed) = (settings, sequence, true);
         Ok(())
     }
 }
@@ -150,9 +159,10 @@ fn missing(source: io::Error, path: &Path) -> Error {
     }
 }
 
-/// Has the names in a file's folder on disk.
+/// Has the names in a file's folder on disk; that of a link's target, which is where a log is.
 pub(crate) fn sync_folder(path: &Path) -> Result<(), Error> {
-    let folder = match path.parent() {
+    let target = path.canonicalize().map_err(Error::io("look at", path))?;
+    let folder = match target.parent() {
         Some(folder) if !folder.as_os_str().is_empty() => folder,
         _ => Path::new("."),
     };
@@ -165,28 +175,21 @@ mod tests {
 
     const SETTINGS: Settings = Settings { exponent: 28, committee_size: 4, own: 1, known: 0 };
 
-    fn slots(first: &[u8], second: &[u8]) -> Vec<u8> {
-        let mut bytes = vec![0; 2 * PAGE as usize];
-        bytes[..SLOT].copy_from_slice(first);
-        bytes[PAGE as usize..PAGE as usize + SLOT].copy_from_slice(second);
-        bytes
-    }
-
-    fn newest(bytes: &[u8]) -> Result<(u64, Settings), Error> {
-        Settings::of_file(Path::new("log.node"), bytes)
+    fn newest(first: Option<[u8; SLOT]>, second: Option<[u8; SLOT]>) -> Result<(u64, Settings), Error> {
+        Settings::of_slots(Path::new("log.node"), [first, second])
     }
 
     #[test]
     fn the_newest_whole_slot_counts() {
         let old = Settings { known: 100, ..SETTINGS }.to_slot(6);
         let new = Settings { known: 200, ..SETTINGS }.to_slot(7);
-        assert_eq!(newest(&slots(&old, &new)).unwrap().1.known, 200);
-        assert_eq!(newest(&slots(&old, &[0; SLOT])).unwrap().1.known, 100);
+        assert_eq!(newest(Some(old), Some(new)).unwrap().1.known, 200);
+        assert_eq!(newest(Some(old), None).unwrap().1.known, 100);
         // A crash in the write of the newer slot leaves any of its bytes, before or after.
         for cut in 0..SLOT {
             let mut torn = Settings { known: 50, ..SETTINGS }.to_slot(5);
             torn[..cut].copy_from_slice(&new[..cut]);
-            let known = newest(&slots(&old, &torn)).unwrap().1.known;
+            let known = newest(Some(old), Some(torn)).unwrap().1.known;
             assert_eq!(known, if torn == new { 200 } else { 100 }, "cut at {cut}");
         }
     }
@@ -203,13 +206,13 @@ mod tests {
 
     #[test]
     fn what_is_no_node_file() {
-        for bytes in [&[][..], &[0; 64], &[0xff; 8192]] {
-            assert!(matches!(newest(bytes), Err(Error::BadNodeFile { .. })));
+        for slots in [(None, None), (Some([0; SLOT]), None), (Some([0xff; SLOT]), Some([0; SLOT]))] {
+            assert!(matches!(newest(slots.0, slots.1), Err(Error::BadNodeFile { .. })));
         }
         let mut other = SETTINGS.to_slot(0);
         other[8] = 2;
         let checksum = u64::from(crc32(&other[..56])).to_le_bytes();
         other[56..].copy_from_slice(&checksum);
-        assert!(matches!(newest(&slots(&other, &[0; SLOT])), Err(Error::NodeFileVersion { version: 2, .. })));
+        assert!(matches!(newest(Some(other), None), Err(Error::NodeFileVersion { version: 2, .. })));
     }
 }

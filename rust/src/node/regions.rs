@@ -20,11 +20,7 @@ pub struct FileEntries<'a> {
 
 impl<'a> FileEntries<'a> {
     pub(super) fn new(file: &'a LogFile, k: u64, used: u64, end: WalPosition) -> Result<Self, Error> {
-        // The checks 1 and 2, of the whole log.
-        Log::new(k, [], 0).walk()?;
-        if used > MOST || end.0 > used {
-            return Err(RefusedAt { refusal: Refusal::Used, start: WalPosition(0) }.into());
-        }
+        check(k, used.max(end.0), used)?;
         let base = end.0 >> k << k;
         let region = region(file, k, used, base)?;
         Ok(Self { file, used, region, base, end, stop: None, done: false })
@@ -74,6 +70,15 @@ impl<'a> FileEntries<'a> {
             }
         }
     }
+}
+
+/// The checks 1 and 2, of the whole log: what is read lies within the file and 2^40.
+pub(super) fn check(k: u64, reached: u64, used: u64) -> Result<(), Error> {
+    Log::new(k, [], 0).walk()?;
+    if used > MOST || reached > used {
+        return Err(RefusedAt { refusal: Refusal::Used, start: WalPosition(0) }.into());
+    }
+    Ok(())
 }
 
 /// The region that begins at `base`, as far as the log reaches.

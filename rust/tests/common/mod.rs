@@ -2,6 +2,7 @@
 #![allow(dead_code)]
 
 use kadzhomir::{Log, RefusedAt};
+use std::fs;
 use std::path::{Path, PathBuf};
 use std::process::Command;
 use std::sync::atomic::{AtomicU64, Ordering};
@@ -47,7 +48,10 @@ pub fn listed(k: u64, bytes: &[u8]) -> Listed {
 /// The example node, which plain `cargo test` builds beside the tool.
 pub fn example(tool: &str) -> Command {
     let node = Path::new(tool).with_file_name("examples").join("node");
-    assert!(node.exists(), "plain `cargo test` builds the example: {}", node.display());
+    let modified = |file: &Path| fs::metadata(file).and_then(|data| data.modified());
+    let library = Path::new(tool).with_file_name("libkadzhomir.rlib");
+    let fresh = modified(&node).is_ok_and(|node| modified(&library).map_or(true, |library| library <= node));
+    assert!(fresh, "{} is missing or old: plain `cargo test` builds it", node.display());
     Command::new(node)
 }
 
@@ -62,9 +66,9 @@ impl Folder {
 
     /// In memory where that is to be had: for tests that only need files, thousands of times.
     pub fn in_memory() -> Self {
-        let memory = Path::new("/dev/shm");
-        if memory.is_dir() {
-            Self::within(memory)
+        let tried = Path::new("/dev/shm").join(format!("kadzhomir-{}", std::process::id()));
+        if fs::create_dir_all(&tried).is_ok() && fs::remove_dir(&tried).is_ok() {
+            Self::within(Path::new("/dev/shm"))
         } else {
             Self::on_disk()
         }

@@ -20,9 +20,9 @@ These change nothing, and may be used while the node runs:
 These change the file. Stop the node first; keep a copy:
   cut FILE         cut the log behind its last whole entry. What is cut off goes
                    into a file of its own, FILE.aside-TIME-PLACE
-  cut FILE --at POS    the same at an earlier place, an entry's end: for a log
-                   that is damaged there. EVERYTHING BEHIND POS IS GIVEN UP,
-                   acknowledged or not
+  cut FILE --at POS    the same at an earlier place, behind an entry or zeros
+                   that follow it: for a log that is damaged there. EVERYTHING
+                   BEHIND POS IS GIVEN UP, acknowledged or not
   adopt FILE       make the node file of a log that has none
 
 Options:
@@ -80,7 +80,9 @@ impl Arguments {
                 plain.push(word);
             } else if options.contains(&option.as_str()) {
                 let value = words.next().ok_or_else(|| usage(&format!("{option} wants a number")))?;
-                parsed.set(&option, number(&value)?);
+                if parsed.set(&option, number(&value)?).is_some() {
+                    return Err(usage(&format!("{option} is given twice")));
+                }
             } else {
                 return Err(usage(&format!("'{}' has no option {option}", parsed.command)));
             }
@@ -88,13 +90,14 @@ impl Arguments {
         parsed.take(plain, *positioned)
     }
 
-    fn set(&mut self, option: &str, value: u64) {
+    /// Sets an option and answers what it was set to before.
+    fn set(&mut self, option: &str, value: u64) -> Option<u64> {
         match option {
-            "--exponent" => self.exponent = Some(value),
-            "--committee" => self.committee = Some(value),
-            "--own" => self.own = Some(value),
-            "--at" => self.at = Some(WalPosition(value)),
-            _ => self.from = Some(WalPosition(value)),
+            "--exponent" => self.exponent.replace(value),
+            "--committee" => self.committee.replace(value),
+            "--own" => self.own.replace(value),
+            "--at" => self.at.replace(WalPosition(value)).map(|p| p.0),
+            _ => self.from.replace(WalPosition(value)).map(|p| p.0),
         }
     }
 

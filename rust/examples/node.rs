@@ -3,10 +3,10 @@
 //!     cargo run --example node -- --create PATH
 //!     cargo run --example node -- PATH
 //!
-//! It opens the log at PATH and tells on standard error what it found; the first time only, `--create` makes it. (A node that made a new log
-//! where the old one is missing would sign a second block in rounds that it has signed.) For each line of standard input it logs a card and
-//! syncs; once that has returned it writes `card POSITION`: from then on no crash loses the card. Every eight cards it makes an own block of
-//! those that are pending and writes `block ROUND POSITION`. Kill it at any moment and start it again.
+//! It opens the log at PATH and tells on standard error what it found; the first time only, `--create` makes it. (A node that made a new
+//! log where the old one is missing would sign a second block in rounds that it has signed.) For each line of standard input it logs a
+//! card and syncs; once that has returned it writes `card POSITION`: from then on no crash loses the card. Every eight cards it makes an
+//! own block of those that are pending and writes `block ROUND POSITION`. Kill it at any moment and start it again.
 use kadzhomir::{
     encode_own_block, BlockBuilder, BlockReference, Error, Node, Options, Payload, Pending, Recovered, Statement, WalPosition,
 };

@@ -1,6 +1,6 @@
-//! The order of writes and syncs. The example node runs under a recorder (recorder.c), is killed, fails to sync, and starts again; then, for
-//! each moment of what was recorded, a power cut is tried: what was not synced by then is on disk or is not. Everything acknowledged by that
-//! moment must be found.
+//! The order of writes and syncs. The example node runs under a recorder (recorder.c), is killed, fails to sync, and starts again; then,
+//! for each moment of what was recorded, a power cut is tried: what was not synced by then is on disk or is not. Everything acknowledged
+//! by that moment must be found. The same is done with the tool's adoption and cut.
 mod common;
 
 use common::{example, listed, payload, Folder, Random};

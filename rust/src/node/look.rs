@@ -29,8 +29,8 @@ pub struct Cut {
 }
 
 impl Look {
-    /// Opens a log and, where it is there, reads its node file. Without one the exponent must be given; with one, another is refused. With an
-    /// exponent a node file that cannot be used counts as none.
+    /// Opens a log and, where it is there, reads its node file. Without one the exponent must be given; with one, another is refused. With
+    /// an exponent a node file that cannot be used counts as none.
     pub fn at(path: impl AsRef<Path>, exponent: Option<u64>) -> Result<Self, Error> {
         let path = path.as_ref();
         let file = LogFile::look(path)?;

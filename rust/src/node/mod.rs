@@ -162,8 +162,8 @@ impl Node {
     /// Makes the node file of a log that has none, as the original's logs, and opens it. The exponent must be given: with another one
     /// than it was written with, a log may seem to end well after a few entries.
     ///
-    /// Nothing is cut but zeros: bytes behind the last whole entry are refused unless they are zero ([`Error::UnreadTail`]), and so are bytes between
-    /// entries ([`Error::HiddenByte`]).
+    /// Nothing is cut but zeros: bytes behind the last whole entry are refused unless they are zero ([`Error::UnreadTail`]), and so are
+    /// bytes between entries ([`Error::HiddenByte`]).
     pub fn adopt(path: impl AsRef<Path>, options: &Options) -> Result<Opened, Error> {
         let path = path.as_ref();
         let settings = options.settings(options.exponent.ok_or(Error::NoExponent)?, 0);
@@ -196,7 +196,9 @@ impl Node {
         if store.log().used() != known {
             node_file.set_known(store.log().used())?;
         }
+        // Where the log is reached by a link, its two files stand in two folders.
         sync_folder(file.path())?;
+        sync_folder(&path_beside(file.path()))?;
         Ok(Opened { node: Self { store, file, node_file, failed: false }, recovered: plan.recovered, cuts: plan.cuts, aside })
     }
 }

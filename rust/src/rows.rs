@@ -15,8 +15,7 @@ struct Needs {
 impl Needs {
     fn apply(&mut self, position: u64, tag: u32, payload: &[u8]) {
         match tag {
-            1 => self.pending.push_back(position),
-            2 => self.pending.push_back(position),
+            1 | 2 => self.pending.push_back(position),
             3 => self.drop_before(payload),
             4 => self.unprocessed = 0,
             5 => self.committed += payload.len() / REFERENCE,

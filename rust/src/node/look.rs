@@ -56,7 +56,7 @@ impl Look {
 
     /// The entry at a position, and its payload. Its region alone is read.
     pub fn read(&self, position: WalPosition) -> Result<(Entry, Vec<u8>), Error> {
-        regions::check(self.k, self.used, self.used)?;
+        regions::check(self.k, 0, self.used)?;
         let base = position.0 >> self.k << self.k;
         let region = regions::region(&self.file, self.k, self.used, base)?;
         let entry = region.read(WalPosition(position.0 - base))?;

@@ -63,17 +63,17 @@ impl Settings {
     }
 
     /// The version, the sequence number and the settings of a slot that is whole.
-    fn of_slot(slot: &[u8]) -> Option<(u64, u64, Self)> {
+    fn of_slot(slot: &[u8; SLOT]) -> Option<(u64, u64, Self)> {
         let word = |i: usize| u64::from_le_bytes(slot[8 * i..8 * i + 8].try_into().unwrap_or_default());
-        if slot.len() < SLOT || slot[..8] != MAGIC || word(7) != u64::from(crc32(&slot[..56])) {
+        if slot[..8] != MAGIC || word(7) != u64::from(crc32(&slot[..56])) {
             return None;
         }
         Some((word(1), word(2), Self { exponent: word(3), committee_size: word(4), own: word(5), known: word(6) }))
     }
 
-    /// Of the newest whole slot; a slot that cannot be read is not whole.
+    /// Of the newest whole slot; one past the file's end is not whole.
     fn of_slots(path: &Path, slots: [Option<[u8; SLOT]>; 2]) -> Result<(u64, Self), Error> {
-        let newest = slots.iter().flatten().filter_map(|slot| Self::of_slot(slot)).max_by_key(|s| s.1);
+        let newest = slots.iter().flatten().filter_map(Self::of_slot).max_by_key(|s| s.1);
         let (version, sequence, settings) = newest.ok_or_else(|| Error::BadNodeFile { path: path.to_path_buf() })?;
         if version != VERSION {
             return Err(Error::NodeFileVersion { path: path.to_path_buf(), version });
@@ -87,10 +87,7 @@ impl NodeFile {
     pub fn open(log: &Path, write: bool) -> Result<Self, Error> {
         let path = path_beside(log);
         let file = OpenOptions::new().read(true).write(write).open(&path).map_err(|source| missing(source, &path))?;
-        let slots = [0, PAGE].map(|at| {
-            let mut slot = [0; SLOT];
-            file.read_exact_at(&mut slot, at).is_ok().then_some(slot)
-        });
+        let slots = slot_at(&file, 0).and_then(|first| Ok([first, slot_at(&file, PAGE)?])).map_err(Error::io("read", &path))?;
         let (sequence, settings) = Settings::of_slots(&path, slots)?;
         Ok(Self { file, path, settings, sequence, confirmed: false })
     }
@@ -149,6 +146,17 @@ impl NodeFile {
         written.map_err(Error::io("write", &self.path))?;
         (self.settings, self.sequence, self.confirmed) = (settings, sequence, true);
         Ok(())
+    }
+}
+
+/// The slot at a place, where the file reaches so far. What a disk cannot read is an error: a crash does not leave that, and the other slot
+/// may be an older one.
+fn slot_at(file: &File, at: u64) -> io::Result<Option<[u8; SLOT]>> {
+    let mut slot = [0; SLOT];
+    match file.read_exact_at(&mut slot, at) {
+        Ok(()) => Ok(Some(slot)),
+        Err(e) if e.kind() == io::ErrorKind::UnexpectedEof => Ok(None),
+        Err(e) => Err(e),
     }
 }
 

@@ -18,7 +18,7 @@ pub struct Plan {
 impl Plan {
     /// Recovers a file's bytes. "Known" bytes were synced and may have been acknowledged; those behind them never were. So a refusal of
     /// an entry at or past the known length cuts the log at the entry's start, and recovery begins again: an own block that is cut away
-    /// no longer drops what was pending before it, so one cut may not be enough. Each cut is shorter than the one before. A refusal
+    /// no longer drops what was pending before it, so one cut may not be enough. Each cut leaves less than the one before. A refusal
     /// before the known length is damage, and so is a log that ends before it, for whatever reason.
     ///
     /// That no such cut comes before the known length, where the bytes before it are those that were synced, is proved

@@ -20,7 +20,7 @@ pub struct FileEntries<'a> {
 
 impl<'a> FileEntries<'a> {
     pub(super) fn new(file: &'a LogFile, k: u64, used: u64, end: WalPosition) -> Result<Self, Error> {
-        check(k, used.max(end.0), used)?;
+        check(k, end.0, used)?;
         let base = end.0 >> k << k;
         let region = region(file, k, used, base)?;
         Ok(Self { file, used, region, base, end, stop: None, done: false })

@@ -26,7 +26,7 @@ use Rattle.tables.proofs.Stores.{at-within, at-words, at-count, gap-wit
 
 -- ---- Rows of eight words
 
-length-flat : (rows : List (List ℕ)) → EightWords rows → length (flat rows) ≡ 8 * length rows
+pub length-flat : (rows : List (List ℕ)) → EightWords rows → length (flat rows) ≡ 8 * length rows
 unfolding flat
 length-flat [] h = refl
 length-flat (r ∷ rows) h = omega (arith, length-append r (flat rows), length-flat rows (h .1), h .0)

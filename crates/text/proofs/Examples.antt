@@ -3,8 +3,10 @@ use mathlib.Core.Path.{_≡_, refl}
 use mathlib.Core.List.{[], _∷_}
 use Prim.Native.Nat.{_-_, _^_}
 use lib.ListN.{drop}
+use Rattle.laws.specs.Ascii.{ascii}
 use Rattle.laws.specs.Parse.{joined}
 use Rattle.text.specs.Clipped.{clipped}
+use Rattle.text.specs.Columns.{blanks, right, left, spaced}
 use Rattle.text.specs.Digits.{digits, decimal, hexDigit, hexDigits, hex8, hexBytes}
 
 -- "65535"
@@ -41,3 +43,12 @@ two-fit = refl
 none-fits : clipped (1 ∷ 2 ∷ 3 ∷ []) 4 (7 ∷ 8 ∷ 9 ∷ []) ≡ 1 ∷ 2 ∷ 3 ∷ []
 unfolding clipped
 none-fits = refl
+
+-- a number to the right, a word to the left, one blank between columns; a wider number stands whole
+columns : (right 5 (decimal 42) ≡ ascii "   42")
+    × (left 5 (ascii "42") ≡ ascii "42   ")
+    × (right 2 (decimal 12345) ≡ ascii "12345")
+    × (spaced (ascii "7" ∷ ascii "a" ∷ []) ≡ ascii "7 a")
+    × (spaced [] ≡ [])
+unfolding right left spaced blanks decimal digits ascii
+columns = (refl, refl, refl, refl, refl)

@@ -1,4 +1,5 @@
 pub mod Clipped
+pub mod Columns
 pub mod Digits
 pub mod Examples
 pub mod Put

@@ -1,3 +1,4 @@
 pub mod Clipped
 pub mod Digits
+pub mod Columns
 pub mod Put

@@ -1,11 +1,12 @@
 // Text into a buffer that the caller lends, as C's snprintf writes it: what does not fit is left out,
 // and the answer is where the text would end.
-ghost use Prim.Native.Nat.{_+_, _≤_, _<_, _%_, _^_};
+ghost use Prim.Native.Nat.{_+_, _-_, _≤_, _<_, _%_, _^_};
 ghost use mathlib.Core.Path.{_≡_};
 ghost use mathlib.Core.List.{[], _∷_};
 ghost use lib.ListN.{length};
 ghost use Rattle.text.specs.Clipped.{clipped};
 ghost use Rattle.text.specs.Digits.{decimal, hexDigit, hexDigits, hex8, hexBytes};
+ghost use Rattle.text.specs.Columns.{blanks, right, left};
 ghost use Rattle.text.specs.Put.{Put};
 
 // Puts the byte b at index at.
@@ -79,6 +80,61 @@ pub fn put_hex_bytes(out: &mut [u8], at: usize, bytes: &[u8]) -> usize
     }
     next
 }
+
+// ---- Columns
+
+// Puts n blanks, from index at on.
+pub fn put_blanks(out: &mut [u8], at: usize, n: usize) -> usize
+    requires { ⌜ (at < 2 ^ 62) × (n < 2 ^ 62) ⌝ }
+    ensures { λ r. ⌜ Put at (blanks n) (now (out .entry)) (now (out .exit)) r ⌝ }
+{
+    let mut i = 0;
+    while i < n {
+        store(out, at + i, b' ');
+        i += 1;
+    }
+    at + n
+}
+
+// How many blanks fill text of `len` bytes up to `width` columns: none where it is wider.
+pub fn missing(width: usize, len: usize) -> usize
+    ensures { λ r. ⌜ r ≡ width - len ⌝ }
+{
+    if len < width { width - len } else { 0 }
+}
+
+// How many decimal digits n has.
+fn count_digits(n: u64) -> usize
+    ensures { λ r. ⌜ r ≡ length (decimal n) ⌝ }
+{
+    let mut count = 1;
+    let mut left = n;
+    while 10 <= left {
+        count += 1;
+        left = left / 10;
+    }
+    count
+}
+
+// Puts n in decimal, to the right in `width` columns, from index at on. A wider number is put whole.
+pub fn put_right(out: &mut [u8], at: usize, width: usize, n: u64) -> usize
+    requires { ⌜ (at < 2 ^ 61) × (width < 2 ^ 61) ⌝ }
+    ensures { λ r. ⌜ Put at (right width (decimal n)) (now (out .entry)) (now (out .exit)) r ⌝ }
+{
+    let start = put_blanks(out, at, missing(width, count_digits(n)));
+    put_decimal(out, start, n)
+}
+
+// Puts a word to the left in `width` columns, from index at on. A wider word is put whole.
+pub fn put_left(out: &mut [u8], at: usize, width: usize, word: &[u8]) -> usize
+    requires { ⌜ (at < 2 ^ 60) × (width < 2 ^ 60) × (length (now word) < 2 ^ 60) ⌝ }
+    ensures { λ r. ⌜ Put at (left width (now (word .entry))) (now (out .entry)) (now (out .exit)) r ⌝ }
+{
+    let end = put_bytes(out, at, word);
+    put_blanks(out, end, missing(width, word.len()))
+}
+
+// ---- Bytes and digits
 
 // A byte as a number of 32 bits.
 fn wide(b: u8) -> u32

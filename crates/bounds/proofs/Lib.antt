@@ -1,0 +1,3 @@
+pub mod Counts
+pub mod Entries
+pub mod Bounds

@@ -1,0 +1,11 @@
+pub mod Examples
+pub mod Texts
+pub mod Parts
+pub mod Tested
+pub mod Lines
+pub mod Sheets
+pub mod Printed
+pub mod InputCases
+pub mod Room
+pub mod ReadBack
+pub mod Request01

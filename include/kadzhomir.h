@@ -26,7 +26,7 @@
    archive's; use header and archive of one version. */
 #define KADZHOMIR_VERSION_MAJOR 0
 #define KADZHOMIR_VERSION_MINOR 2
-#define KADZHOMIR_VERSION_PATCH 0
+#define KADZHOMIR_VERSION_PATCH 1
 #define KADZHOMIR_VERSION (KADZHOMIR_VERSION_MAJOR * 65536 + KADZHOMIR_VERSION_MINOR * 256 + KADZHOMIR_VERSION_PATCH)
 
 /* As the next entry of an own block: no payload and no block before it stays pending. */
@@ -290,6 +290,22 @@ enum kadzhomir_recovered_words {
 uint8_t kadzhomir_recover(uint64_t k, const uint8_t *image, size_t image_len, uint64_t used, uint64_t size, uint64_t own,
     uint64_t *pending, size_t pending_len, uint64_t *unprocessed, size_t unprocessed_len, uint64_t *committed,
     size_t committed_len, uint64_t *index, size_t index_len, uint64_t answer[KADZHOMIR_AT_LEAST(KADZHOMIR_RECOVERED)]);
+
+/* The recovery page, for the office wall: recovers as kadzhomir_recover does, into the same tables, and writes what is
+   pending into `out`, as text in lines of KADZHOMIR_PAGE_LINE bytes, 72 columns and a line feed. A page is a heading, a row
+   for each pending entry, KADZHOMIR_PAGE_ROWS at most, and a foot with the numbers of rows of pending, unprocessed and
+   committed and the stop word; with nothing pending there is one page, without rows. Refused: the line of the number alone,
+   and the tables are all zero. What does not fit into `out` is left out, what stands there behind the text is as it was,
+   and no NUL is written. *length is the length of the whole text: lend 0 bytes to learn it. Where n rows are lent for
+   pending, it has at most n lines and two for each KADZHOMIR_PAGE_ROWS of them, counted up; two where n is 0. Checks: as of
+   kadzhomir_recover. */
+enum kadzhomir_page {
+    KADZHOMIR_PAGE_ROWS = 58,
+    KADZHOMIR_PAGE_LINE = 73
+};
+uint8_t kadzhomir_recovery_page(uint64_t k, const uint8_t *image, size_t image_len, uint64_t used, uint64_t size,
+    uint64_t own, uint64_t *pending, size_t pending_len, uint64_t *unprocessed, size_t unprocessed_len, uint64_t *committed,
+    size_t committed_len, uint64_t *index, size_t index_len, uint8_t *out, size_t out_len, uint64_t *length);
 
 /* Where to go on appending and inserting, with the same k: stores E in *used. `recovered` is recovery's answer. Checks:
    the recovery's number (18 where that word is above 19); refused, *used is as it was. */

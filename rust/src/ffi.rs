@@ -32,6 +32,11 @@ mod c {
             unprocessed: *mut u64, unprocessed_len: usize, committed: *mut u64, committed_len: usize, index: *mut u64, index_len: usize,
             answer: *mut RecoveredWords,
         ) -> u8;
+        pub fn kadzhomir_recovery_page(
+            k: u64, image: *const u8, image_len: usize, used: u64, size: u64, own: u64, pending: *mut u64, pending_len: usize,
+            unprocessed: *mut u64, unprocessed_len: usize, committed: *mut u64, committed_len: usize, index: *mut u64, index_len: usize,
+            out: *mut u8, out_len: usize, length: *mut u64,
+        ) -> u8;
         pub fn kadzhomir_writer(recovered: *const RecoveredWords, used: *mut u64) -> u8;
         pub fn kadzhomir_open(size: u64, own: u64, recovered: *const RecoveredWords, store: *mut StoreWords) -> u8;
         pub fn kadzhomir_insert_block(
@@ -166,6 +171,17 @@ pub fn recover(v: View, size: u64, own: u64, tables: &mut [Vec<u64>; 4], answer:
         c::kadzhomir_recover(
             v.k, v.image.as_ptr(), v.image.len(), v.used, size, own, p.as_mut_ptr(), p.len(), u.as_mut_ptr(), u.len(), c.as_mut_ptr(),
             c.len(), i.as_mut_ptr(), i.len(), answer,
+        )
+    }
+}
+
+/// The tables are as `recover` leaves them. `length` is the length of the whole text, of which `out` gets what it has room for.
+pub fn recovery_page(v: View, size: u64, own: u64, tables: &mut [Vec<u64>; 4], out: &mut [u8], length: &mut u64) -> u8 {
+    let [p, u, c, i] = tables;
+    unsafe {
+        c::kadzhomir_recovery_page(
+            v.k, v.image.as_ptr(), v.image.len(), v.used, size, own, p.as_mut_ptr(), p.len(), u.as_mut_ptr(), u.len(), c.as_mut_ptr(),
+            c.len(), i.as_mut_ptr(), i.len(), out.as_mut_ptr(), out.len(), length,
         )
     }
 }

@@ -5,7 +5,7 @@
 //! is given, or says by a [`Refusal`] why not; none panics on the log's bytes.
 //!
 //! - [`Node`]: a log in a file, opened, cut where a crash left it, appended to and synced. Begin here.
-//! - [`Log`]: append, read, walk and recover a log in memory that the caller brings.
+//! - [`Log`]: append, read, walk and recover a log in memory that the caller brings, and its recovery page.
 //! - [`BlockStore`]: a recovered log with its index: insert, cleanup and lookups.
 //! - [`Recovered`]: what a recovery found beside the index.
 //! - [`BlockBuilder`], [`Payload`], [`OwnBlock`], [`Commit`]: what entries hold, encoded and decoded; [`Block`] is a view.
@@ -20,6 +20,7 @@ mod ffi;
 mod library;
 mod log;
 mod node;
+mod page;
 mod records;
 mod recovered;
 mod refusal;
@@ -31,6 +32,7 @@ pub use block::Block;
 pub use library::{crc32, library_version, Version, VERSION};
 pub use log::{Entries, Entry, Log, Stop, Walked};
 pub use node::{Aside, Cut, Error, FileEntries, Look, Node, Opened, Options, Plan, Settings};
+pub use page::RefusedPage;
 pub use records::{encode_own_block, BlockBuilder, Commit, CommitData, OwnBlock, Payload, Statement, TransactionLocator, Vote};
 pub use recovered::{Indexed, Pending, Recovered};
 pub use refusal::{NotRecovered, Refusal, RefusedAt};

@@ -1,7 +1,8 @@
 use crate::ffi::{self, StoreWords, View};
+use crate::page;
 use crate::recovered::Recovered;
 use crate::refusal::{served, served_at};
-use crate::{BlockStore, NotRecovered, Refusal, RefusedAt, WalPosition};
+use crate::{BlockStore, NotRecovered, Refusal, RefusedAt, RefusedPage, WalPosition};
 use std::fmt;
 use std::ops::Range;
 
@@ -217,6 +218,31 @@ impl<B: AsRef<[u8]>> Log<B> {
     pub fn recover_in_rows(self, committee_size: u64, own: u64, rows: [usize; 4]) -> Result<(BlockStore<B>, Recovered), NotRecovered<B>> {
         let answer = Recovered::in_rows(self.view(), committee_size, own, rows);
         BlockStore::opened(self, committee_size, own, answer)
+    }
+
+    /// The recovery page, for the office wall: what a recovery finds pending, as text in lines of 72 columns, each with its line feed. A
+    /// page is a heading, up to 58 rows (position, kind, and of a block its author and round), and a foot with the counts of pending,
+    /// unprocessed and committed and the stop word; with nothing pending there is one page, without rows. Where recovery refuses the log,
+    /// the refusal comes with the line of its number, which is all that is printed then.
+    ///
+    /// ```
+    /// use kadzhomir::{Log, Refusal};
+    ///
+    /// let mut log = Log::new(16, vec![0; 4096], 0);
+    /// log.append_raw(2, &[0; 8])?; // a payload without statements
+    /// let page = log.recovery_page(4, 0)?;
+    /// assert!(page.lines().all(|line| line.len() == 72));
+    /// let lines: Vec<&str> = page.lines().map(str::trim_end).collect();
+    /// assert_eq!(lines[0], "PENDING");
+    /// assert_eq!(lines[1], "            0 payload");
+    /// assert_eq!(lines[2], "            1             0             0 END");
+    ///
+    /// let refused = log.recovery_page(0, 0).unwrap_err(); // a committee of nobody
+    /// assert_eq!((refused.refusal, refused.text.trim()), (Refusal::Store, "18"));
+    /// # Ok::<(), Box<dyn std::error::Error>>(())
+    /// ```
+    pub fn recovery_page(&self, committee_size: u64, own: u64) -> Result<String, RefusedPage> {
+        page::sized(self.view(), committee_size, own)
     }
 }
 

@@ -1,7 +1,7 @@
 use crate::ffi::{self, RecoveredWords, View};
 use crate::refusal::served_at;
 use crate::rows;
-use crate::{BlockReference, Refusal, RefusedAt, Stop, WalPosition};
+use crate::{BlockReference, RefusedAt, Stop, WalPosition};
 use std::fmt;
 use std::ops::Range;
 
@@ -79,19 +79,9 @@ impl Recovered {
         Ok(Self { words, tables })
     }
 
-    /// In as many rows as the log's entries can need, and in more each time that they are too few. An entry has 16 bytes at least, so
-    /// that no table needs more than a row for each 16 bytes.
+    /// In as many rows as the log needs.
     pub(crate) fn sized(view: View, committee_size: u64, own: u64) -> Result<Self, RefusedAt> {
-        let most = view.image.len().min(view.used as usize) / 16;
-        let mut rows = rows::needed(view);
-        loop {
-            match Self::in_rows(view, committee_size, own, rows) {
-                Err(RefusedAt { refusal: Refusal::Rows, .. }) if rows.iter().any(|n| *n < most) => {
-                    rows = rows.map(|n| most.min(2 * n + 16))
-                }
-                answer => return answer,
-            }
-        }
+        rows::sized(view, |rows| Self::in_rows(view, committee_size, own, rows), |refused| refused.refusal)
     }
 
     fn rows(&self, table: usize) -> impl ExactSizeIterator<Item = &[u64]> {

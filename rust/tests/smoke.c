@@ -1,5 +1,5 @@
-/* A program in C over the archive: appends, walks, recovers, inserts and looks up; encodes and decodes each record; and what
-   refused calls leave. */
+/* A program in C over the archive: appends, walks, recovers, inserts and looks up; writes a recovery page; encodes and decodes
+   each record; and what refused calls leave. */
 #include "kadzhomir.h"
 
 #include <stdio.h>
@@ -53,6 +53,11 @@ static size_t put_block(uint8_t *out, size_t out_len, uint64_t round, uint64_t a
 static uint8_t recover(uint64_t k, uint64_t used) {
     return kadzhomir_recover(k, image, sizeof image, used, SIZE, OWN, pending, WORDS, unprocessed, WORDS, committed, WORDS, rows, WORDS,
         recovered);
+}
+
+static uint8_t page(uint64_t k, uint64_t used, uint8_t *out, size_t out_len, uint64_t *length) {
+    return kadzhomir_recovery_page(k, image, sizeof image, used, SIZE, OWN, pending, WORDS, unprocessed, WORDS, committed, WORDS, rows,
+        WORDS, out, out_len, length);
 }
 
 static void serves_a_log(void) {
@@ -164,6 +169,24 @@ static void serves_a_recovery(void) {
     expect("highest round", recovered[KADZHOMIR_RECOVERED_HIGHEST_ROUND], ROUND + 2);
     expect("last seen", (recovered + KADZHOMIR_RECOVERED_LAST_SEEN)[AUTHORITY + 1], ROUND + 2);
     expect("last seen of all", KADZHOMIR_RECOVERED - KADZHOMIR_RECOVERED_LAST_SEEN, KADZHOMIR_AUTHORITIES);
+}
+
+/* The page of the same log, whose length is learnt first. It leaves the tables as the recovery above did. */
+static void serves_a_page(void) {
+    enum { LINE = KADZHOMIR_PAGE_LINE, LINES = 4 };
+    static const char foot[] = "            2             3             1 END ";
+    uint64_t end = recovered[KADZHOMIR_RECOVERED_END], length = 0;
+    uint8_t text[LINES * LINE];
+    size_t i;
+
+    expect("page's length", page(K, end, NULL, 0, &length), 0);
+    expect("its bytes", length, sizeof text);
+    expect("page", page(K, end, text, sizeof text, &length), 0);
+    for (i = 1; i <= LINES; i++) expect("line feed", text[i * LINE - 1], '\n');
+    expect("heading", (uint64_t)memcmp(text, "PENDING ", 8), 0);
+    expect("payload's row", (uint64_t)memcmp(text + LINE + 14, "payload ", 8), 0);
+    expect("block's row", (uint64_t)memcmp(text + 2 * LINE + 14, "block      2                    5 ", 34), 0);
+    expect("foot", (uint64_t)memcmp(text + 3 * LINE, foot, sizeof foot - 1), 0);
 }
 
 /* The words of the tables' rows: those of the recovery above. */
@@ -282,7 +305,8 @@ static void serves_commits(void) {
 }
 
 static void refuses(void) {
-    uint64_t walked[KADZHOMIR_WALKED], step[KADZHOMIR_STEP], kept[KADZHOMIR_STORE], used = 7;
+    uint64_t walked[KADZHOMIR_WALKED], step[KADZHOMIR_STEP], kept[KADZHOMIR_STORE], length, used = 7;
+    uint8_t line[KADZHOMIR_PAGE_LINE];
 
     expect("walk, k of 5", kadzhomir_walk(KADZHOMIR_K_MIN - 1, image, sizeof image, 21, walked), KADZHOMIR_REFUSAL_REGION_EXPONENT);
     expect("no stop", walked[KADZHOMIR_WALKED_STOP], KADZHOMIR_STOP_REFUSED);
@@ -293,6 +317,9 @@ static void refuses(void) {
     expect("open, committee of 0", kadzhomir_open(0, OWN, recovered, store), KADZHOMIR_REFUSAL_STORE);
     expect("recover, k of 29", recover(KADZHOMIR_K_MAX + 1, 21), KADZHOMIR_REFUSAL_REGION_EXPONENT);
     expect("no stop of a recovery", recovered[KADZHOMIR_RECOVERED_STOP], KADZHOMIR_STOP_REFUSED);
+    expect("page, k of 29", page(KADZHOMIR_K_MAX + 1, 21, line, sizeof line, &length), KADZHOMIR_REFUSAL_REGION_EXPONENT);
+    expect("a line", length, sizeof line);
+    expect("its number", (uint64_t)memcmp(line, "            1 ", 14), 0);
     expect("open of a refused recovery", kadzhomir_open(SIZE, OWN, recovered, store), KADZHOMIR_REFUSAL_REGION_EXPONENT);
     expect("store kept", (uint64_t)memcmp(store, kept, sizeof store), 0);
     expect("writer of a refused recovery", kadzhomir_writer(recovered, &used), KADZHOMIR_REFUSAL_REGION_EXPONENT);
@@ -317,6 +344,7 @@ int main(void) {
     serves_a_log();
     serves_a_store();
     serves_a_recovery();
+    serves_a_page();
     serves_rows();
     serves_questions();
     serves_blocks();

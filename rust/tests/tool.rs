@@ -52,7 +52,7 @@ fn transcript() {
             commands += 1;
         }
     }
-    assert!(commands >= 80, "{commands}");
+    assert!(commands >= 120, "{commands}");
 }
 
 #[test]
@@ -66,15 +66,29 @@ fn the_listing_is_the_proved_programs() {
     assert_eq!(output.status.code(), Some(1));
 }
 
+/// The sample's log is torn and not refused, so that a node would cut nothing before it recovers.
+#[test]
+fn the_page_is_the_proved_programs() {
+    let crate_folder = Path::new(env!("CARGO_MANIFEST_DIR")).join("../crates/recovery_page");
+    let input = fs::read(crate_folder.join("stdin")).unwrap();
+    let folder = Folder::in_memory();
+    fs::write(folder.file("log"), &input[3..]).unwrap();
+    let [k, size, own] = [0, 1, 2].map(|i| input[i].to_string());
+    let output = run(&folder, &["recover", "log", "--page", "--exponent", &k, "--committee", &size, "--own", &own]);
+    assert_eq!(output.stdout, fs::read(crate_folder.join("stdout")).unwrap());
+    assert_eq!(output.status.code(), Some(1));
+}
+
 #[test]
 fn looking_changes_no_byte() {
     let folder = logs();
     let all = |folder: &Folder| -> Vec<_> { folder.files("").into_iter().map(|p| (p.clone(), fs::read(p).unwrap())).collect() };
     let before = all(&folder);
-    for log in ["sound", "torn", "zeros", "cut-twice", "damaged", "hidden", "short", "empty"] {
+    for log in ["sound", "pages", "torn", "zeros", "cut-twice", "damaged", "hidden", "short", "empty"] {
         for command in ["list", "verify", "recover"] {
             run(&folder, &[command, log]);
         }
+        run(&folder, &["recover", log, "--page"]);
         run(&folder, &["dump", log, "0"]);
     }
     assert_eq!(all(&folder), before);
@@ -87,7 +101,7 @@ fn help() {
         let output = run(&folder, words);
         assert_eq!(output.status.code(), Some(0));
         let text = String::from_utf8(output.stdout).unwrap();
-        for word in ["list", "verify", "recover", "dump", "cut", "adopt", "--exponent", "Exit status"] {
+        for word in ["list", "verify", "recover", "dump", "cut", "adopt", "--page", "--exponent", "Exit status"] {
             assert!(text.contains(word), "{word}");
         }
         assert!(text.lines().all(|line| line.len() <= 80), "wider than a terminal");

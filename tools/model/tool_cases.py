@@ -12,6 +12,7 @@ import struct
 import sys
 import zlib
 
+import page
 from records import byte_string, listed, reference, share, starts, u32, u64
 from recovery import MAX, recover
 from wal import Refused, walk
@@ -99,6 +100,13 @@ def node_file(known):
     return slot(known // 2, 4).ljust(4096, b"\0") + slot(known, 5).ljust(4096, b"\0")
 
 
+class NotOpened(Exception):
+    """A log that no node opens: where it is damaged before its known length, and the refusal's number where there is one."""
+
+    def __init__(self, position, number=None):
+        self.position, self.number = position, number
+
+
 class LogFile:
     """A log's bytes, and how many are known to be on disk: none where it has no node file."""
 
@@ -139,26 +147,43 @@ class LogFile:
                 lines.append("DAMAGED %d %d" % (reached, self.known))
         return lines, 2 if refused else self.status(reached)
 
-    def recover(self):
+    def plan(self):
+        """What a node that opens the log would recover, where its last whole entry ends, and the cuts before."""
         known, used, cuts = self.known or 0, len(self.data), []
         if used < known:
-            return ["DAMAGED %d %d" % (used, known)], 2
+            raise NotOpened(used)
         while True:
             try:
                 found = recover(K, self.data, used, SIZE, OWN, LENT)
                 break
             except Refused as r:
                 if r.start < known:
-                    return ["REFUSED %d %d" % (r.number, r.start), "DAMAGED %d %d" % (r.start, known)], 2
+                    raise NotOpened(r.start, r.number)
                 cuts.append("cut %d %d" % (r.number, r.start))
                 used = r.start
-        word, end, _ = found.stop.split()
-        tail = len(self.data) - int(end)
-        if int(end) < known:
-            return ["DAMAGED %s %d" % (end, known)], 2
+        end = int(found.stop.split()[1])
+        if end < known:
+            raise NotOpened(end)
+        return found, end, cuts
+
+    def recover(self):
+        try:
+            found, end, cuts = self.plan()
+        except NotOpened as x:
+            refused = [] if x.number is None else ["REFUSED %d %d" % (x.number, x.position)]
+            return refused + ["DAMAGED %d %d" % (x.position, self.known)], 2
         counts = ["%s %d" % (name, len(rows)) for name, rows in zip(["pending", "unprocessed", "committed", "indexed"], found.tables)]
-        lines = cuts + ["%s %s %d" % (word, end, tail)] + counts + ["highest-round %d" % found.highest]
-        return lines + [pending(row) for row in found.tables[0]], 1 if tail else 0
+        stop = "%s %d %d" % (found.stop.split()[0], end, len(self.data) - end)
+        lines = cuts + [stop] + counts + ["highest-round %d" % found.highest]
+        return lines + [pending(row) for row in found.tables[0]], self.status(end)
+
+    def page(self):
+        """The lines of the page of what such a node would recover; the cuts are told on standard error."""
+        try:
+            found, end, _ = self.plan()
+        except NotOpened as x:
+            return [] if x.number is None else page.number_line(x.number).decode().splitlines(), 2
+        return page.page(found).decode().splitlines(), self.status(end)
 
     def dump(self, i):
         p, tag, payload = self.ending()[0][i]
@@ -181,9 +206,17 @@ KNOWN = len(DATA)
 # Behind the known length: a payload that does not decode, the own block that drops it, and a state.
 MORE, MORE_AT = starts(K, ENTRIES + [(2, b"bad"), (3, u64(MAX) + block(0, 2)), (4, b"last")])
 
+# Payloads and blocks that wait, up to the last round that a block can have: with the four of the log above 72 pending entries, two pages.
+CARDS = [(2, listed([share(b"card %d" % i)])) for i in range(34)]
+BLOCKS = [(1, block(1 + i % 3, MAX - 33 + i)) for i in range(34)]
+PAGES, _ = starts(K, ENTRIES + [entry for pair in zip(CARDS, BLOCKS) for entry in pair])
+ONE, _ = starts(K, [ENTRIES[1]])
+
 LOGS = {
     "sound": LogFile(DATA, KNOWN),
     "empty": LogFile(b"", 0),
+    "one": LogFile(ONE, len(ONE)),
+    "pages": LogFile(PAGES, KNOWN),
     "more": LogFile(MORE, KNOWN),
     "torn": LogFile(MORE[: MORE_AT[9] + 40], KNOWN),
     "zeros": LogFile(DATA + bytes(2000), KNOWN),
@@ -207,7 +240,16 @@ def looked_at():
         yield [("verify %s%s" % (name, bare), log.verify())]
         if log.known is not None:
             yield [("recover %s" % name, log.recover())]
-    yield [("recover bare %s%s" % (GIVEN, COMMITTEE), LOGS["bare"].recover())]
+            yield [("recover %s --page" % name, log.page())]
+        else:
+            given = "recover %s %s%s" % (name, GIVEN, COMMITTEE)
+            yield [(given, log.recover())]
+            yield [(given + " --page", log.page())]
+    yield [("recover --page sound", LOGS["sound"].page())]
+    refused = page.number_line(18).decode().splitlines()
+    yield [("recover bare %s --committee 129 --own 0 --page" % GIVEN, (refused, 2))]
+    refused = page.number_line(1).decode().splitlines()
+    yield [("recover bare --exponent 29%s --page" % COMMITTEE, (refused, 2))]
     for i, p in enumerate(AT):
         yield [("dump sound %d" % p, LOGS["sound"].dump(i))]
     yield [("dump damaged %d" % AT[2], (["REFUSED 7 %d" % AT[2]], 2))]
@@ -251,6 +293,9 @@ def wrong():
         ("", 64), ("look sound", 64), ("list", 64), ("list sound torn", 64), ("list sound --own 1", 64), ("dump sound", 64),
         ("dump sound x", 64), ("list sound --exponent", 64), ("list sound --from -1", 64), ("list none", 74),
         ("list bare", 64), ("list sound --exponent 11", 2), ("recover sound --own 1", 2), ("recover bare " + GIVEN, 64),
+        ("recover sound --page --page", 64), ("list sound --page", 64), ("verify sound --page", 64), ("dump sound 0 --page", 64),
+        ("cut sound --page", 64), ("adopt bare --page", 64), ("recover --page", 64), ("recover sound --page --own 1", 2),
+        ("recover bare --page " + GIVEN, 64), ("recover none --page", 74),
         ("list sound --from %d" % (KNOWN + 1), 64), ("cut sound --at %d" % (KNOWN + 1), 2), ("cut sound --at %d" % (AT[2] + 1), 2),
     ]:  # fmt: skip
         yield [(words, ([], status))]

@@ -7,6 +7,7 @@ use Rattle.wal_writer.specs.Answers.{appendAnswer, appendImage}
 use Rattle.wal_writer.specs.declared.WalWriter.{WalWriter}
 use Rattle.replay.specs.Recovery.{recover}
 use Rattle.replay_log.specs.Answers.{recoveredOf, Tables, rowsLent, tablesAfter}
+use Rattle.page.specs.Answers.{FillsRecoveryPage}
 use Rattle.insert.specs.Insert.{insertedAnswer, insertedImage, insertedIndex}
 use Rattle.query.specs.Query.{Question, looked, lookedTable}
 use Rattle.wal.specs.declared.Walked.{Walked}
@@ -26,7 +27,12 @@ pub record GivesRecovery (k : ℕ) (image : List ℕ) (used size own : ℕ) (bef
   pub words : a ≡ recoveredWords (recoveredOf used own (recover k image used size own (rowsLent before)))
   pub rows : after ≡ tablesAfter (recover k image used size own (rowsLent before)) before
 
--- of an append: the same of its answer, and the image before and after it
+-- of a recovery page: the number, the length of the whole text, each byte of the buffer and each word of the tables
+abbrev pub GivesPage : ℕ → List ℕ → ℕ → ℕ → ℕ → Tables → List ℕ → ℕ → ℕ → Tables → List ℕ → Type 0
+GivesPage k image used size own before out n len after out′ =
+    FillsRecoveryPage k image used size own before out (record { number = n; length = len }) after out′
+
+-- of an append: the number, the words of the answer, and the image before and after it
 pub record GivesAppend (w : WalWriter) (tag : ℕ) (payload : List ℕ) (n : ℕ) (a image image′ : List ℕ) : Type 0 where
   pub number : n ≡ appendNumber (appendAnswer w image payload)
   pub words : a ≡ appendWords (w .used) (appendAnswer w image payload)

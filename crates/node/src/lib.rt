@@ -35,13 +35,13 @@ ghost use Rattle.node_log.specs.Answers.{Reads, Steps, DecodesBlock, DecodesRef
 ghost use Rattle.node_records.specs.Answers.{DecodesStatement, DecodesPayload, DecodesOwnBlock, DecodesCommit, DecodesCommitData};
 ghost use Rattle.node_given.specs.Given.{locatorOf, rangeOf, voteGiven, voteWith, blockFieldsOf, EncodesWords};
 ghost use Rattle.node_answers.specs.Answers.{Tells, Cleans, Shows, Links};
-ghost use Rattle.node.specs.Calls.{GivesWalk, GivesRecovery, GivesAppend, GivesInsert, GivesLookup};
+ghost use Rattle.node.specs.Calls.{GivesWalk, GivesRecovery, GivesPage, GivesAppend, GivesInsert, GivesLookup};
 use types::TransactionLocator;
 use wal::WalPosition;
 use wal::WalWriter;
 
-// 0.2.0: major * 65536 + minor * 256 + patch.
-pub const VERSION: u32 = 0x0000_0200;
+// 0.2.1: major * 65536 + minor * 256 + patch.
+pub const VERSION: u32 = 0x0000_0201;
 
 // Appends an entry to a log of `used` bytes, and answers the refusal's number, 0 where there is none.
 #[no_mangle]
@@ -137,6 +137,45 @@ pub extern "C" fn kadzhomir_recover(
     node_words::put_recovered(answer, r);
     let walked = r.walked;
     walked.number()
+}
+
+// Recovers what a log holds into the tables, as `kadzhomir_recover` does, and fills `out` with the recovery page:
+// what does not fit is left out, and the length of the whole text is stored. Answers the refusal's number, 0 where
+// there is none.
+#[no_mangle]
+pub extern "C" fn kadzhomir_recovery_page(
+    k: u64,
+    image: &[u8],
+    used: u64,
+    size: u64,
+    own: u64,
+    pending: &mut [u64],
+    unprocessed: &mut [u64],
+    committed: &mut [u64],
+    index: &mut [u64],
+    out: &mut [u8],
+    length: &mut u64,
+) -> u8
+    ensures { λ r. ⌜ GivesPage k (now (image .entry)) used size own
+        (tables (now (pending .entry)) (now (unprocessed .entry)) (now (committed .entry)) (now (index .entry)))
+        (now (out .entry)) r (now (length .exit))
+        (tables (now (pending .exit)) (now (unprocessed .exit)) (now (committed .exit)) (now (index .exit)))
+        (now (out .exit)) ⌝ }
+{
+    let r = page::recovery_page(
+        k,
+        image,
+        used,
+        size,
+        own,
+        pending,
+        unprocessed,
+        committed,
+        index,
+        out,
+    );
+    *length = r.length as u64;
+    r.number
 }
 
 // Puts the store that a recovery for this committee and own authority leaves: its answer is `recovered`.
@@ -727,7 +766,7 @@ pub extern "C" fn kadzhomir_crc32(bytes: &[u8]) -> u32
 // The library's version.
 #[no_mangle]
 pub extern "C" fn kadzhomir_version() -> u32
-    ensures { λ r. ⌜ r ≡ 512 ⌝ }
+    ensures { λ r. ⌜ r ≡ 513 ⌝ }
 {
     VERSION
 }

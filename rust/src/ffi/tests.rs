@@ -101,6 +101,62 @@ fn a_refused_recovery_leaves_zeros() {
     }
 }
 
+/// What `recovery_page` returns, the length that it stores, `out` with this many bytes, and tables of one row.
+fn paged(v: View, size: u64, room: usize) -> (u8, u64, Vec<u8>, [Vec<u64>; 4]) {
+    let mut tables = [(); 4].map(|()| vec![STALE; 8]);
+    let (mut out, mut length) = (vec![0xee; room], STALE);
+    let number = recovery_page(v, size, 0, &mut tables, &mut out, &mut length);
+    (number, length, out, tables)
+}
+
+/// What `out` with this many bytes holds of a text.
+fn clipped(text: &str, room: usize) -> Vec<u8> {
+    text.bytes().chain(std::iter::repeat(0xee)).take(room).collect()
+}
+
+#[test]
+fn a_page_is_clipped_where_the_buffer_ends() {
+    let (mut image, mut answer) = ([0; 64], [STALE; 3]);
+    assert_eq!(append(6, 0, &mut image, 2, &[0; 8], &mut answer), 0);
+    let foot = "            1             0             0 ";
+    for (used, stop) in [(24, "END"), (25, "TORN"), (64, "ZEROS")] {
+        let v = view(6, &image, used);
+        let text = format!("{:72}\n{:72}\n{:72}\n", "PENDING", "            0 payload", format!("{foot}{stop}"));
+        for room in [0, 1, 7, 72, 73, 74, 218, 219, 220, 300] {
+            let (number, length, out, tables) = paged(v, 4, room);
+            assert_eq!((number, length, out), (0, 219, clipped(&text, room)), "{room} bytes");
+            assert_eq!(tables, recovered(v, 4, 0).2);
+        }
+    }
+    let (number, length, out, _) = paged(view(6, &image, 0), 4, 146);
+    let none = format!("{:72}\n{:72}\n", "PENDING", "            0             0             0 END");
+    assert_eq!((number, length, out), (0, 146, none.into_bytes()));
+}
+
+#[test]
+fn a_refused_page_is_a_number() {
+    let (whole, damaged) = (first_log(), damaged_log());
+    let (mut two, mut answer) = ([0; 64], [0, 0, 0]);
+    for _ in 0..2 {
+        assert_eq!(append(6, answer[2], &mut two, 2, &[0; 8], &mut answer), 0);
+    }
+    for (v, size, refused) in [
+        (view(6, &damaged, 89), 4, 7),
+        (view(6, &two, 48), 4, 15),
+        // Each of these before the next.
+        (view(29, &whole, 129), 0, 1),
+        (view(6, &whole, 129), 0, 2),
+        (view(6, &damaged, 89), 0, 18),
+    ] {
+        let text = format!("{refused:13}{:59}\n", "");
+        for room in [0, 12, 13, 72, 73, 200] {
+            let (number, length, out, tables) = paged(v, size, room);
+            assert_eq!((number, length, out), (refused, 73, clipped(&text, room)), "{room} bytes");
+            assert!(tables.iter().all(|t| t[..] == [0; 8]));
+        }
+    }
+}
+
 #[test]
 fn a_refused_walk_has_no_stop() {
     let walked = |k, image: &[u8], used| {

@@ -1,7 +1,7 @@
 //! What opening a log will do, decided from its bytes alone: nothing is written here.
 use super::error::Error;
 use super::node_file::Settings;
-use crate::{BlockStore, Log, Recovered, RefusedAt, WalPosition};
+use crate::{BlockStore, Log, Recovered, RefusedAt, RefusedPage, WalPosition};
 
 /// What opening a log would find: the log to go on with, at the end of its last whole entry.
 #[derive(Debug)]
@@ -55,6 +55,14 @@ impl Plan {
     /// The file's bytes behind the place where the log goes on.
     pub fn tail(&self) -> &[u8] {
         &self.store.log().image()[self.end() as usize..]
+    }
+
+    /// The recovery page of what was recovered here ([`Log::recovery_page`]): of the whole file, or up to the last cut. The log is
+    /// recovered once more, so that the page is the proved call's.
+    pub fn recovery_page(&self) -> Result<String, RefusedPage> {
+        let log = self.store.log();
+        let used = self.recovered.end().0 + self.recovered.unread();
+        Log::new(log.k(), log.image(), used).recovery_page(self.store.committee_size(), self.store.own())
     }
 
     pub(crate) fn end(&self) -> u64 {

@@ -15,6 +15,9 @@ These change nothing, and may be used while the node runs:
                    not replayed: recover does that
   recover FILE     what a node that opens this log would believe: counts, and
                    the pending entries; or why it would not open it
+  recover FILE --page  the same, as the recovery page for the office wall, in
+                   lines of 72 columns; where a node would not open the log,
+                   the refusal's number alone
   dump FILE POS    the entry at a position, decoded
 
 These change the file. Stop the node first; keep a copy:
@@ -48,13 +51,14 @@ pub struct Arguments {
     pub own: Option<u64>,
     pub at: Option<WalPosition>,
     pub from: Option<WalPosition>,
+    pub page: bool,
 }
 
 /// The commands, and whether they take a position and each of the options.
 const COMMANDS: [(&str, bool, &[&str]); 7] = [
     ("list", false, &["--exponent", "--from"]),
     ("verify", false, &["--exponent"]),
-    ("recover", false, &["--exponent", "--committee", "--own"]),
+    ("recover", false, &["--exponent", "--committee", "--own", "--page"]),
     ("dump", true, &["--exponent"]),
     ("cut", false, &["--exponent", "--at"]),
     ("adopt", false, &["--exponent", "--committee", "--own"]),
@@ -79,8 +83,7 @@ impl Arguments {
             if !option.starts_with("--") {
                 plain.push(word);
             } else if options.contains(&option.as_str()) {
-                let value = words.next().ok_or_else(|| usage(&format!("{option} wants a number")))?;
-                if parsed.set(&option, number(&value)?).is_some() {
+                if parsed.set(&option, &mut words)? {
                     return Err(usage(&format!("{option} is given twice")));
                 }
             } else {
@@ -90,15 +93,19 @@ impl Arguments {
         parsed.take(plain, *positioned)
     }
 
-    /// Sets an option and answers what it was set to before.
-    fn set(&mut self, option: &str, value: u64) -> Option<u64> {
-        match option {
-            "--exponent" => self.exponent.replace(value),
-            "--committee" => self.committee.replace(value),
-            "--own" => self.own.replace(value),
-            "--at" => self.at.replace(WalPosition(value)).map(|p| p.0),
-            _ => self.from.replace(WalPosition(value)).map(|p| p.0),
+    /// Sets an option, with its value from the words behind it, and answers whether it was set before. `--page` alone has no value.
+    fn set(&mut self, option: &str, words: &mut impl Iterator<Item = OsString>) -> Result<bool, Failure> {
+        if option == "--page" {
+            return Ok(std::mem::replace(&mut self.page, true));
         }
+        let value = number(&words.next().ok_or_else(|| usage(&format!("{option} wants a number")))?)?;
+        Ok(match option {
+            "--exponent" => self.exponent.replace(value).is_some(),
+            "--committee" => self.committee.replace(value).is_some(),
+            "--own" => self.own.replace(value).is_some(),
+            "--at" => self.at.replace(WalPosition(value)).is_some(),
+            _ => self.from.replace(WalPosition(value)).is_some(),
+        })
     }
 
     fn take(mut self, plain: Vec<OsString>, positioned: bool) -> Result<Self, Failure> {

@@ -119,7 +119,9 @@ fn recover(arguments: &Arguments, out: &mut impl Write) -> Result<Status, Failur
         say(format_args!("recovering {} bytes ..", look.used()));
     }
     match look.plan(&options) {
+        Ok(plan) if arguments.page => page(&plan, out),
         Ok(plan) => believed(&plan, out),
+        Err(error) if arguments.page => no_page(error, out),
         Err(error) => refused(error, out),
     }
 }
@@ -143,7 +145,37 @@ fn believed(plan: &Plan, out: &mut impl Write) -> Result<Status, Failure> {
             Pending::Payload { position, len } => writeln!(out, "payload {position} {len}")?,
         }
     }
-    Ok(if plan.tail().is_empty() { Status::Sound } else { Status::Unread })
+    Ok(tail_status(plan))
+}
+
+/// What the bytes behind the last whole entry say of the log.
+fn tail_status(plan: &Plan) -> Status {
+    if plan.tail().is_empty() {
+        Status::Sound
+    } else {
+        Status::Unread
+    }
+}
+
+/// The recovery page. Standard output has its lines alone, so that the cuts are told on standard error.
+fn page(plan: &Plan, out: &mut impl Write) -> Result<Status, Failure> {
+    for RefusedAt { refusal, start } in &plan.cuts {
+        say(format_args!("cut {} {start}", refusal.number()));
+    }
+    match plan.recovery_page() {
+        Ok(text) => out.write_all(text.as_bytes())?,
+        Err(refused) => return no_page(refused.refusal.into(), out),
+    }
+    Ok(tail_status(plan))
+}
+
+/// The page of a log that no node would open: the number in 13 columns, where there is one, filled with blanks to 72.
+fn no_page(error: Error, out: &mut impl Write) -> Result<Status, Failure> {
+    if let Some(refusal) = error.refusal() {
+        writeln!(out, "{:>13}{:59}", refusal.number(), "")?;
+    }
+    out.flush()?;
+    Err(error.into())
 }
 
 /// The lines of a log that no node would open.

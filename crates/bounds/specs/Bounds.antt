@@ -36,7 +36,7 @@ abbrev pub AllSmall : ℕ → ℕ → List ReplayEntry → Type 0
 AllSmall size used [] = Unit
 AllSmall size used (x ∷ later) = Small size used x × AllSmall size used later
 
--- for every image, whose elements are bytes, and every argument of recovery
+-- for every argument of recovery; `AllBytes s` says where the image's elements have to be bytes
 pub record Bounds : Type 0 where
   -- 15, "an answer or index table needs more rows than lent", is never given where each table has a row for each 16 bytes
   pub enough : (k : ℕ) (s : List ℕ) (used size own : ℕ) (lent : Lent) (p : ℕ) → AllBytes s → Enough used lent

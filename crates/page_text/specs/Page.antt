@@ -1,4 +1,4 @@
--- The recovery page. Document 02, Req 01: what is printed of a recovery, and of an input that holds a log.
+-- The recovery page. Document 02, Req 01: what is printed of a recovery, and of an input of the program.
 use mathlib.Core.List.{List, [], _∷_, _++_, map}
 use Prim.Native.Nat.{ℕ, zero, suc}
 use lib.Dec.{leb}

@@ -98,7 +98,7 @@ pub record Shows (text : List ℕ) (w : Stop) (l : List ReplayEntry) : Type 0 wh
   pub rows : rowsIn text ≡ map shown (pending l)
   -- "A full page has 60 lines with its own heading and foot": each part of 60 lines; the last may have fewer
   pub pages : AllPages (foot w l) (parts 60 (linesOf text))
-  -- no line but rows, headings and feet, and no page more than the rows need, at 58 a page
+  -- how many lines: with the two fields above, no line but rows, headings and feet, and no page more than the rows need, at 58 a page
   pub lines : length (linesOf text) ≡ length (pending l) + 2 * length (parts 58 (pending l))
   -- "nothing pending prints one page"
   pub one : pending l ≡ [] → text ≡ heading ++ foot w l
@@ -116,5 +116,5 @@ pub record Request-01 : Type 0 where
   pub input-refused : (input : List ℕ) (n p : ℕ) → inputRecovery input ≡ refused n p → inputPage input ≡ numberLine n
   -- "with the listing's limits .. tables have 4,096 rows": no input within the limits needs more
   pub rows-enough : (input : List ℕ) (p : ℕ) → AllBytes input → inputRecovery input ≡ refused 15 p → ⊥
-  -- a buffer of 309,301 bytes has room for every input's page: 4,095 rows, one for each 16 bytes, and 71 headings and feet, 73 bytes each
+  -- a buffer of 309,301 bytes has room for every input's page: 4,095 rows, one for each 16 bytes, 71 headings and 71 feet, 73 bytes each
   pub room : (input : List ℕ) → AllBytes input → length (inputPage input) ≤ 309301

@@ -1,40 +1,42 @@
 // Decoders of bincode's rules for numbers, bools and byte strings. Each takes any place and any
 // bytes, and answers the value that stands there and the place behind it, or that there is none.
+#![tactic(auto)]
+
 ghost use Rattle.std.specs.Prelude.{◌≡◌, ◌+◌, length, leb};
 ghost use Rattle.laws.specs.Parse.{number};
 ghost use Rattle.bincode.specs.Bincode.{bool, byte_string};
 ghost use Rattle.bincode.specs.Answers.{number_answer, flag_answer, part_answer};
 
 // A number and the place behind it.
-#[derive(Drop)]
+#[derive(Clone, Copy)]
 pub enum Number {
     Bad,
     Got(u64, usize),
 }
 
 // A bool, or an option's tag, and the place behind it.
-#[derive(Drop)]
+#[derive(Clone, Copy)]
 pub enum Flag {
     Bad,
     Got(bool, usize),
 }
 
 // Elements behind their count: where the first begins, how many they are, where the last ends.
-#[derive(Drop)]
+#[derive(Clone, Copy)]
 pub enum Part {
     Bad,
     Got(usize, usize, usize),
 }
 
 // The place behind elements in a row.
-#[derive(Drop)]
+#[derive(Clone, Copy)]
 pub enum End {
     Bad,
     At(usize),
 }
 
 // A pass over elements in a row: the place of the next one, and how many are left.
-#[derive(Drop)]
+#[derive(Clone, Copy)]
 pub struct Cursor {
     pub at: usize,
     pub left: usize,

@@ -3,6 +3,8 @@
 
 // Reads a block from the log at a position (block_store.rs, read_index): its reference, and where its bytes
 // stand in the image.
+#![tactic(auto)]
+
 ghost use Rattle.std.specs.Prelude.{◌≡◌, ◌+◌, ◌^◌, ◌≤◌, ◌<◌, length};
 ghost use Rattle.wal_reader.specs.Answers.{entry_named};
 ghost use Rattle.block_reader.specs.Reading.{plain_block, own_block_at, block_in, block_at, read_of};
@@ -13,7 +15,7 @@ use wal_position::WalPosition;
 use wal_reader::{Found, WalEntry};
 
 // A block as it was read: its reference, and where its bytes stand; or a refusal's number.
-#[derive(Drop)]
+#[derive(Clone, Copy)]
 pub struct ReadBlock {
     pub number: u8,
     pub reference: BlockReference,

@@ -3,6 +3,8 @@
 
 // Blocks (types.rs) and their decoder. It takes any place and any bytes, and answers the block that
 // stands there and the place behind it, or that there is none. The digest is not recomputed.
+#![tactic(auto)]
+
 ghost use Rattle.std.specs.Prelude.{◌≡◌};
 ghost use Rattle.types.specs.Records.{block};
 ghost use Rattle.blocks.specs.Answers.{trailer, no_trailer, trailer_answer, no_block, block_answer};
@@ -12,14 +14,14 @@ use crypto::{BlockDigest, SignatureBytes};
 use types::BlockReference;
 
 // 128 bits, in two halves.
-#[derive(Drop)]
+#[derive(Clone, Copy)]
 pub struct TimestampNs {
     pub low: u64,
     pub high: u64,
 }
 
 // Includes and statements are answered as cursors at their first elements.
-#[derive(Drop)]
+#[derive(Clone, Copy)]
 pub struct StatementBlock {
     pub reference: BlockReference,
     pub includes: Cursor,
@@ -29,7 +31,7 @@ pub struct StatementBlock {
     pub signature: SignatureBytes,
 }
 
-#[derive(Drop)]
+#[derive(Clone, Copy)]
 pub struct DecodedBlock {
     pub ok: bool,
     pub block: StatementBlock,
@@ -37,7 +39,7 @@ pub struct DecodedBlock {
 }
 
 // What stands behind the statements.
-#[derive(Drop)]
+#[derive(Clone, Copy)]
 struct Trailer {
     ok: bool,
     time: TimestampNs,

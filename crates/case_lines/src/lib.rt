@@ -1,5 +1,7 @@
 // What the programs that run cases share: the numbers and parts of a case's bytes, words of a line on the standard output, and
 // checksums over words, so that a line can speak of a whole table.
+#![tactic(auto)]
+
 ghost use Rattle.std.specs.Prelude.{◌≡◌, ◌+◌, ltb, get_or};
 ghost use Rattle.laws.specs.Bytes.{le};
 ghost use Rattle.laws.specs.Parse.{joined};

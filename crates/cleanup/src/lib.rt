@@ -2,6 +2,8 @@
 // Changed: written anew in Rattle, with contracts. NOTICE says what was carried across and what was changed.
 
 // Cleanup (block_store.rs, cleanup and unload_below_round): the blocks of old rounds are unloaded.
+#![tactic(auto)]
+
 ghost use Rattle.std.specs.Prelude.{◌≡◌, map, ◌*◌, ◌≤◌, length};
 ghost use Rattle.laws.specs.Bytes.{written};
 ghost use Rattle.rows.specs.Rows.{rows_of, flat, Ascending};
@@ -11,7 +13,7 @@ use store::BlockStore;
 use types::RoundNumber;
 
 // How many blocks were unloaded, or a refusal's number.
-#[derive(Drop)]
+#[derive(Clone, Copy)]
 pub enum Cleaned {
     Unloaded(u64),
     Refused(u8),

@@ -4,6 +4,8 @@
 // The payloads of log entries (block_store.rs, core.rs): own blocks, lists of statements, commits.
 // Each decoder takes any place and any bytes, and answers the record that stands there and the
 // place behind it, or that there is none.
+#![tactic(auto)]
+
 ghost use Rattle.std.specs.Prelude.{◌≡◌};
 ghost use Rattle.laws.specs.Parse.{many};
 ghost use Rattle.bincode.specs.Bincode.{vec};
@@ -19,13 +21,13 @@ use crypto::SignatureBytes;
 use types::{BlockReference, ZERO_REFERENCE};
 use wal_position::WalPosition;
 
-#[derive(Drop)]
+#[derive(Clone, Copy)]
 pub struct OwnBlockData {
     pub next_entry: WalPosition,
     pub block: StatementBlock,
 }
 
-#[derive(Drop)]
+#[derive(Clone, Copy)]
 pub struct DecodedOwnBlock {
     pub ok: bool,
     pub own_block: OwnBlockData,
@@ -33,13 +35,13 @@ pub struct DecodedOwnBlock {
 }
 
 // The sub-dag is answered as a cursor at its first reference.
-#[derive(Drop)]
+#[derive(Clone, Copy)]
 pub struct CommitData {
     pub leader: BlockReference,
     pub sub_dag: Cursor,
 }
 
-#[derive(Drop)]
+#[derive(Clone, Copy)]
 pub struct DecodedCommitData {
     pub ok: bool,
     pub commit: CommitData,
@@ -47,7 +49,7 @@ pub struct DecodedCommitData {
 }
 
 // An element of a commit's list that a cursor came to, and the cursor behind it.
-#[derive(Drop)]
+#[derive(Clone, Copy)]
 pub struct NextCommit {
     pub ok: bool,
     pub commit: CommitData,
@@ -55,7 +57,7 @@ pub struct NextCommit {
 }
 
 // A commit's payload: a cursor at the first element of its list, and where the state stands.
-#[derive(Drop)]
+#[derive(Clone, Copy)]
 pub enum Commit {
     Bad,
     Got {

@@ -2,6 +2,8 @@
 // Changed: written anew in Rattle, with contracts. NOTICE says what was carried across and what was changed.
 
 // The committee's size (committee.rs): all that the store needs of it.
+#![tactic(auto)]
+
 ghost use Rattle.std.specs.Prelude.{◌≡◌};
 ghost use Rattle.committee.specs.Committee.{committee_check};
 

@@ -2,6 +2,8 @@
 // the checksum in eight hexadecimal digits. The file `stdout` has what they should be: the check
 // value 123456789 of the CRC catalogue (CRC-32/ISO-HDLC), the vectors that are published with zlib's
 // and other CRC-32 libraries, and for the rest what zlib computes (tools/model/crc_vectors.py).
+#![tactic(auto)]
+
 use libc::STDOUT_FILENO;
 
 fn show(bytes: &[u8]) {

@@ -3,6 +3,8 @@
 
 // The digest and the signature of a block (crypto.rs): bytes of a fixed number, by value, and their
 // decoders. Each decoder takes any place and any bytes.
+#![tactic(auto)]
+
 ghost use Rattle.std.specs.Prelude.{◌≡◌, ◌+◌, ◌≤◌, length};
 ghost use Rattle.laws.specs.Bytes.{bytes_at};
 ghost use Rattle.crypto.specs.Records.{digest, signature};
@@ -14,14 +16,14 @@ pub const BLOCK_DIGEST_SIZE: usize = 32;
 
 pub const SIGNATURE_SIZE: usize = 64;
 
-#[derive(Drop)]
+#[derive(Clone, Copy)]
 pub struct BlockDigest(pub [u8; 32]);
 
-#[derive(Drop)]
+#[derive(Clone, Copy)]
 pub struct SignatureBytes(pub [u8; 64]);
 
 // A digest and the place behind it, where `ok`; otherwise all is zero.
-#[derive(Drop)]
+#[derive(Clone, Copy)]
 pub struct DecodedDigest {
     pub ok: bool,
     pub digest: BlockDigest,
@@ -29,7 +31,7 @@ pub struct DecodedDigest {
 }
 
 // A signature and the place behind it, where `ok`; otherwise all is zero.
-#[derive(Drop)]
+#[derive(Clone, Copy)]
 pub struct DecodedSignature {
     pub ok: bool,
     pub signature: SignatureBytes,

@@ -3,6 +3,8 @@
 
 // Encoders of the records of fixed width and of statements, into bytes that a caller lends, from any
 // place on. Where the record does not fit, the bytes stay as they were.
+#![tactic(auto)]
+
 ghost use Rattle.std.specs.Prelude.{◌≡◌, ◌+◌, ◌≤◌, length, leb};
 ghost use Rattle.std.proofs.Math.Option.{some};
 ghost use Rattle.types.specs.Records.{reference_bytes, locator_bytes, range_bytes, vote_bytes, statement_bytes, share, vote_on, vote_range};
@@ -13,7 +15,7 @@ use types::{BlockReference, TransactionLocator, TransactionLocatorRange};
 use votes::{Vote, VoteKind};
 
 // The place behind the record; or that it does not fit; or that what was given is none.
-#[derive(Drop)]
+#[derive(Clone, Copy)]
 pub enum Encoded {
     End(usize),
     NoRoom,

@@ -5,6 +5,8 @@
 // are lent too, as encoded elements in a row beside their number: each is decoded before anything is
 // written, so that what is written is a record. Where it is none, or does not fit, the bytes stay as
 // they were.
+#![tactic(auto)]
+
 ghost use Rattle.std.specs.Prelude.{◌≡◌, ◌+◌, ◌≤◌, length, leb};
 ghost use Rattle.laws.specs.Parse.{many};
 ghost use Rattle.types.specs.Records.{reference, statement, block_bytes, payload_bytes};
@@ -19,7 +21,7 @@ use encode::Encoded;
 use types::BlockReference;
 
 // A block but for its lists, with the numbers of their elements. The creation time is in two halves.
-#[derive(Drop)]
+#[derive(Clone, Copy)]
 pub struct BlockFields {
     pub reference: BlockReference,
     pub include_count: u64,

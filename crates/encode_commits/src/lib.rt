@@ -4,6 +4,8 @@
 // Encoders of own blocks and of commits, into bytes that a caller lends, from any place on. Blocks
 // and lists are lent too, encoded: each is decoded before anything is written, so that what is
 // written is a record. Where it is none, or does not fit, the bytes stay as they were.
+#![tactic(auto)]
+
 ghost use Rattle.std.specs.Prelude.{◌≡◌};
 ghost use Rattle.laws.specs.Parse.{many};
 ghost use Rattle.types.specs.Records.{reference, block};

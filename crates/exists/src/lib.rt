@@ -2,6 +2,8 @@
 // Changed: written anew in Rattle, with contracts. NOTICE says what was carried across and what was changed.
 
 // Questions that read no block (block_store.rs, BlockStore): whether blocks are indexed.
+#![tactic(auto)]
+
 ghost use Rattle.std.specs.Prelude.{◌≡◌, ◌*◌, ◌≤◌, length};
 ghost use Rattle.rows.specs.Rows.{rows_of, Ascending};
 ghost use Rattle.exists.specs.Exists.{block_exists, block_exists_at, all_blocks_exist_at, round_there, all_exist};
@@ -11,7 +13,7 @@ use store::BlockStore;
 use types::{AuthorityIndex, BlockReference, RoundNumber};
 
 // A yes or no, or a refusal's number.
-#[derive(Drop)]
+#[derive(Clone, Copy)]
 pub enum Answer {
     Yes,
     No,

@@ -3,6 +3,8 @@
 
 // Where the rows that a lookup asks for stand among the ascending rows of the index (block_store.rs, the ranges
 // of BlockStoreInner's map).
+#![tactic(auto)]
+
 ghost use Rattle.std.specs.Prelude.{◌≡◌, true, false, ◌+◌, ◌-◌, ◌*◌, ◌≤◌, eqb, length, get_or};
 ghost use Rattle.laws.specs.Pick.{pick};
 ghost use Rattle.rows.specs.Rows.{rows_of, Ascending, below};

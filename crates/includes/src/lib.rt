@@ -2,6 +2,8 @@
 // Changed: written anew in Rattle, with contracts. NOTICE says what was carried across and what was changed.
 
 // References compared, and the includes of a block's bytes (types.rs).
+#![tactic(auto)]
+
 ghost use Rattle.std.specs.Prelude.{◌≡◌};
 ghost use Rattle.includes.specs.References.{same_bytes, same, among};
 ghost use Rattle.includes.specs.Includes.{includes_of, Parses};

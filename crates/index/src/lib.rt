@@ -3,6 +3,8 @@
 
 // The block index (block_store.rs, BlockStoreInner): a reference as a row's words, a block's presence
 // in a round, and the store's summary. The rows themselves are a table that the caller lends.
+#![tactic(auto)]
+
 ghost use Rattle.std.specs.Prelude.{◌≡◌, false, ◌+◌, ◌*◌, ◌≤◌, ◌<◌, max as greater, ltb, eqb, length, get_or};
 ghost use Rattle.laws.specs.Pick.{pick};
 ghost use Rattle.laws.specs.Bytes.{bytes_at};
@@ -15,14 +17,14 @@ use types::{AuthorityIndex, BlockReference, RoundNumber};
 use wal_position::WalPosition;
 
 // A reference that may be missing; zero where it is.
-#[derive(Drop)]
+#[derive(Clone, Copy)]
 pub struct FoundReference {
     pub there: bool,
     pub reference: BlockReference,
 }
 
 // What the store knows of its blocks without reading one.
-#[derive(Drop)]
+#[derive(Clone, Copy)]
 pub struct StoreSummary {
     pub highest_round: RoundNumber,
     pub last_seen_by_authority: [u64; 128],

@@ -3,6 +3,8 @@
 
 // Whether one block is an ancestor of another (block_store.rs, linked): the rounds are searched from the later
 // block's down.
+#![tactic(auto)]
+
 ghost use Rattle.std.specs.Prelude.{◌≡◌, true, false, suc, ◌+◌, ◌*◌, ◌/◌, ◌≤◌, ◌<◌, eqb, length};
 ghost use Rattle.laws.specs.Pick.{pick};
 ghost use Rattle.laws.specs.Bytes.{zeros};
@@ -20,7 +22,7 @@ use store::BlockStore;
 use types::{BlockReference, RoundNumber};
 
 // The number of a refusal, or 0, the answer, and the store with the loads counted.
-#[derive(Drop)]
+#[derive(Clone, Copy)]
 pub struct LinkedAnswer {
     pub number: u8,
     pub linked: bool,

@@ -3,6 +3,8 @@
 
 // Lookups by reference, by round, and by round and author (block_store.rs, BlockStore's queries). Each reads the
 // blocks that it finds from the log, and writes them as rows of the table `out`.
+#![tactic(auto)]
+
 ghost use Rattle.lookup.specs.Lookups.{GetBlock, GetBlocksByRound, GetBlocksAtAuthorityRound, blocks_of_round};
 ghost use Rattle.query.specs.Query.{call_of, QueryAnswers};
 

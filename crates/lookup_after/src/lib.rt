@@ -3,6 +3,8 @@
 
 // Lookups after a round (block_store.rs, BlockStore's queries): own blocks, and others' blocks. Each reads the
 // blocks that it finds from the log, and writes them as rows of the table `out`.
+#![tactic(auto)]
+
 ghost use Rattle.std.specs.Prelude.{◌≡◌};
 ghost use Rattle.lookup_after.specs.After.{after_number, GetOwnBlocks, GetOthersBlocks};
 ghost use Rattle.query.specs.Query.{call_of};

@@ -2,13 +2,15 @@
 // Changed: written anew in Rattle, with contracts. NOTICE says what was carried across and what was changed.
 
 // What a pending entry stands for (core.rs, `MetaStatement`; state.rs, `into_meta_statement`).
+#![tactic(auto)]
+
 ghost use Rattle.std.specs.Prelude.{◌≡◌};
 ghost use Rattle.meta_statement.specs.MetaStatement.{included, stated, meta_statement, no_meta, meta_answer};
 
 use bincode::{Cursor, Part};
 use types::BlockReference;
 
-#[derive(Drop)]
+#[derive(Clone, Copy)]
 pub enum MetaKind {
     Nothing,
     Include,
@@ -16,7 +18,7 @@ pub enum MetaKind {
 }
 
 // An Include has the block's reference, a Payload a cursor at its first statement.
-#[derive(Drop)]
+#[derive(Clone, Copy)]
 pub struct MetaStatement {
     pub kind: MetaKind,
     pub reference: BlockReference,

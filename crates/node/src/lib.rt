@@ -3,6 +3,8 @@
 // compiler holds a caller in C to that. Fixed answers, stores and references are arrays, so that no contract has
 // to say what a short one gets. A store is words that the caller keeps. Each call answers the refusal's number,
 // 0 where there is none; one that decodes or encodes a record refuses nothing, and its words say what it found.
+#![tactic(auto)]
+
 ghost use Rattle.std.specs.Prelude.{◌≡◌, ◌+◌, ◌*◌, ◌/◌, length};
 ghost use Rattle.std.proofs.Math.Option.{some};
 ghost use Rattle.laws.specs.Bytes.{zeros};

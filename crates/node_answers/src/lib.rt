@@ -1,5 +1,7 @@
 // What each call of the crate node on a block store answers, put into the words that its caller lends: the
 // answer of a call of another crate, as words and as a number.
+#![tactic(auto)]
+
 ghost use Rattle.node_answers.specs.Answers.{Tells, Cleans, Logs, Looks, Shows, Links};
 
 use cleanup::Cleaned;

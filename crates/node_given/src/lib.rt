@@ -1,4 +1,6 @@
 // What a caller of the crate node gives an encoder as words, and the words that an encoder answers.
+#![tactic(auto)]
+
 ghost use Rattle.std.specs.Prelude.{◌≡◌, ◌≤◌};
 ghost use Rattle.std.proofs.Math.Option.{some};
 ghost use Rattle.put_records.specs.Votes.{vote_value};

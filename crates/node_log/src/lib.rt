@@ -1,5 +1,7 @@
 // What each call of the crate node on a log answers, and each that decodes a record, put into the words that its
 // caller lends: the answer of a call of another crate, as words and as a number.
+#![tactic(auto)]
+
 ghost use Rattle.std.specs.Prelude.{◌≡◌};
 ghost use Rattle.node_log.specs.Answers.{append_number, append_words, Reads, Steps, DecodesBlock, DecodesReference};
 

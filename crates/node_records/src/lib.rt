@@ -1,5 +1,7 @@
 // What each call of the crate node that decodes a record answers, put into the words that its caller lends (a
 // decoded block or reference: node_log).
+#![tactic(auto)]
+
 ghost use Rattle.std.specs.Prelude.{◌≡◌};
 ghost use Rattle.node_records.specs.Answers.{statement_kind_word, vote_kind_word, locator_words, vote_words, range_words, DecodesStatement, DecodesPayload, DecodesOwnBlock, DecodesCommit, DecodesCommitData};
 

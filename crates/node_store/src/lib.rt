@@ -1,5 +1,7 @@
 // The words of a store, which a caller of the crate node keeps between calls, and the store and the
 // reference that words stand for.
+#![tactic(auto)]
+
 ghost use Rattle.std.specs.Prelude.{◌≡◌, ◌+◌, ◌≤◌, get_or};
 ghost use Rattle.laws.specs.Bytes.{written};
 ghost use Rattle.text.specs.Clipped.{clipped};

@@ -1,4 +1,6 @@
 // Words that a caller of the crate node lends for an answer.
+#![tactic(auto)]
+
 ghost use Rattle.std.specs.Prelude.{◌≡◌, ◌≤◌, length};
 ghost use Rattle.text.specs.Clipped.{clipped};
 ghost use Rattle.node_words.specs.Words.{stop_word, walked_words, span_words, found_words, head_words, summary_words, recovered_words};

@@ -1,5 +1,7 @@
 // The recovery page: what is pending in a log, for the office wall, as text in a buffer that the caller
 // lends. What does not fit is left out, and the answer is the length of the whole text.
+#![tactic(auto)]
+
 ghost use Rattle.std.specs.Prelude.{◌≤◌};
 ghost use Rattle.text.specs.Put.{Put};
 ghost use Rattle.replay_log.specs.Answers.{tables};
@@ -15,7 +17,7 @@ const INPUT_MAX: usize = 65536;
 const TABLE_WORDS: usize = 32768;
 
 // The number of a refused recovery, 0 where it is accepted, and the length of the whole text.
-#[derive(Drop)]
+#[derive(Clone, Copy)]
 pub struct Paged {
     pub number: u8,
     pub length: usize,

@@ -11,6 +11,8 @@
 // words lent for each table, and then its name and its bytes, each behind its length. Form 0 is
 // `input_page` of these bytes, where the numbers behind the buffer's length are not used; form 1 is
 // `recovery_page` of the image that they are.
+#![tactic(auto)]
+
 ghost use Rattle.std.specs.Prelude.{◌≤◌, length};
 
 use case_lines::{behind, blank, bytes_at, end_line, feed_table, hex, number, number_at, plus};
@@ -23,7 +25,7 @@ const TEXT: usize = 309301;
 const WORDS: usize = 1024;
 
 // The arguments of a call, but for the bytes.
-#[derive(Drop)]
+#[derive(Clone, Copy)]
 pub struct Call {
     pub form: u64,
     pub shown: u64,

@@ -1,5 +1,7 @@
 // The lines of the recovery page, as text in a buffer that the caller lends. What does not fit is left out,
 // and the answer is where the text would end.
+#![tactic(auto)]
+
 ghost use Rattle.std.specs.Prelude.{[], ◌∷◌, ◌++◌, ◌+◌, ◌-◌, ◌*◌, ◌^◌, ◌≤◌, ◌<◌, ◌≡◌, length};
 ghost use Rattle.laws.specs.Ascii.{line_feed};
 ghost use Rattle.text.specs.Columns.{blanks};

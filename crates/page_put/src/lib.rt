@@ -1,5 +1,7 @@
 // The pages of the recovery page, put from the rows of a table into a buffer that the caller lends. What does
 // not fit is left out, and the answer is where the text would end.
+#![tactic(auto)]
+
 ghost use Rattle.std.specs.Prelude.{map, ◌+◌, ◌-◌, ◌*◌, ◌^◌, ◌≤◌, ◌<◌, ◌≡◌, length, drop};
 ghost use Rattle.laws.specs.Parse.{joined};
 ghost use Rattle.text.specs.Put.{Put};

@@ -1,5 +1,7 @@
 // Payloads, the lists of statements of tag 2 entries: every payload of at most 21 bytes as text, and a
 // payload decoded and encoded again.
+#![tactic(auto)]
+
 ghost use Rattle.std.specs.Prelude.{◌≡◌, true, [], ◌++◌, ◌^◌, ◌≤◌, ◌<◌, length, get_or};
 ghost use Rattle.laws.specs.Bytes.{le};
 ghost use Rattle.laws.specs.Parse.{many};

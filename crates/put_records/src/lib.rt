@@ -1,5 +1,7 @@
 // Stores of records into bytes that a caller lends. Each answers the place behind the record, and
 // asks that the record fits: its callers have tested that.
+#![tactic(auto)]
+
 ghost use Rattle.std.specs.Prelude.{◌++◌, ◌+◌, ◌≤◌, length};
 ghost use Rattle.laws.specs.Bytes.{le};
 ghost use Rattle.bincode.specs.Bincode.{bool_bytes};

@@ -4,6 +4,8 @@
 // What every query is made of (block_store.rs, BlockStore's queries): the blocks of chosen rows read into the
 // answer table, the loads counted. The rows of the table `out` have the reference in the block, and where its
 // bytes stand in the image.
+#![tactic(auto)]
+
 ghost use Rattle.std.specs.Prelude.{◌≡◌, [], ◌*◌, ◌≤◌, length};
 ghost use Rattle.laws.specs.Bytes.{zeros};
 ghost use Rattle.query.specs.Query.{answer_row, read_rows, counted, looked_up, call_of, QueryAnswers};
@@ -20,7 +22,7 @@ use wal_position::WalPosition;
 const MOST: u64 = 0xffff_ffff_ffff_ffff;
 
 // The number of a refusal, or 0, the rows found, and the store with the loads counted.
-#[derive(Drop)]
+#[derive(Clone, Copy)]
 pub struct Looked {
     pub number: u8,
     pub rows: usize,
@@ -29,7 +31,7 @@ pub struct Looked {
 
 // The number of a refusal, or 0, how many rows were chosen, and how many of their blocks were not
 // loaded.
-#[derive(Drop)]
+#[derive(Clone, Copy)]
 struct Collected {
     number: u8,
     rows: usize,

@@ -4,6 +4,8 @@
 // One round of the search for an ancestor (block_store.rs, linked): which of its blocks are reached from those
 // of the round above. A working row belongs to each index row: whether its block is reached, and where the
 // block's bytes stand in the image.
+#![tactic(auto)]
+
 ghost use Rattle.std.specs.Prelude.{◌≡◌, true, false, ◌*◌, ◌≤◌, length};
 ghost use Rattle.laws.specs.Pick.{pick};
 ghost use Rattle.filters.specs.Segments.{between};
@@ -17,7 +19,7 @@ use wal_position::WalPosition;
 
 // The number of a refusal, or 0, how many of the blocks read were not loaded, and whether the earlier
 // block is among those that were reached.
-#[derive(Drop)]
+#[derive(Clone, Copy)]
 pub struct Searched {
     pub number: u8,
     pub unloaded: u64,
@@ -26,7 +28,7 @@ pub struct Searched {
 
 // Where the blocks of the round above are that were reached: the later block itself, or the working
 // rows up to `end`.
-#[derive(Drop)]
+#[derive(Clone, Copy)]
 pub struct Parents {
     pub later: bool,
     pub end: usize,

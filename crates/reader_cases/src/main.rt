@@ -3,6 +3,8 @@
 // an iterator, so the two calls are made through `append_through` and `step_through`.
 //
 // The file `stdout` was made by tools/model/reader_cases.py, a model written from document 01.
+#![tactic(auto)]
+
 use case_lines::{end_line, hex, number, part};
 use libc::STDOUT_FILENO;
 use meta_statement::{MetaKind, MetaStatement};

@@ -3,6 +3,8 @@
 // those decode, and a checksum over a 0 for each that does not and a 1 and the bytes encoded again
 // for each that does, and the values of some fields. `stdin` and `stdout` were made by tools/oracle with the Rust's own types and
 // bincode 1.3.3: the records, and what the Rust says of each.
+#![tactic(auto)]
+
 use case_lines::{end_line, hex, more, number, part, plus};
 use commits::Commit;
 use encode::Encoded;
@@ -11,7 +13,7 @@ use libc::{STDIN_FILENO, STDOUT_FILENO};
 use statements::StatementKind;
 
 // What was asked of a record so far.
-#[derive(Drop)]
+#[derive(Clone, Copy)]
 pub struct Tally {
     pub register: u32,
     pub accepted: u64,

@@ -11,6 +11,8 @@
 // used, committee size, own authority and the words lent for each table, and then its name and its
 // image, each behind its length. Form 0 is shown in full, form 1 in a line for each cut, form 2 in one
 // line.
+#![tactic(auto)]
+
 ghost use Rattle.std.specs.Prelude.{◌≤◌, length};
 
 use case_lines::{
@@ -25,7 +27,7 @@ use wal::{Stop, Walked};
 use wal_position::WalPosition;
 
 // The arguments of a call, but for the image.
-#[derive(Drop)]
+#[derive(Clone, Copy)]
 pub struct Call {
     pub form: u64,
     pub k: u64,

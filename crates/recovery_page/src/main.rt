@@ -2,6 +2,8 @@
 // byte each, and then the image from standard input, and writes the page to standard output.
 //
 // `stdin` and `stdout` were made by tools/model/page_cases.py, a model written from the documents.
+#![tactic(auto)]
+
 use libc::{STDIN_FILENO, STDOUT_FILENO};
 
 // One byte more than the page takes, so that a longer input is seen to be longer.

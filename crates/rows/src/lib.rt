@@ -1,10 +1,12 @@
 // Words that a caller lends, as rows of eight: a key of six, and two of value. Lengths are in words, counts
 // in rows. Each function asks that its rows lie within the table: its callers have tested that.
+#![tactic(auto)]
+
 ghost use Rattle.std.specs.Prelude.{◌≡◌, ◌+◌, ◌*◌, ◌≤◌, length};
 ghost use Rattle.rows.specs.Rows.{rows_of, row_at, key, compared, Ascending, place_of, leading_below};
 
 // Where one key stands to another.
-#[derive(Drop)]
+#[derive(Clone, Copy)]
 pub enum Order {
     Below,
     Equal,
@@ -12,7 +14,7 @@ pub enum Order {
 }
 
 // Where a key is, or where a row with that key belongs.
-#[derive(Drop)]
+#[derive(Clone, Copy)]
 pub enum Place {
     At(usize),
     Gap(usize),

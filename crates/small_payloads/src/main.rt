@@ -1,5 +1,7 @@
 // Writes every payload of at most 21 bytes that decodes without trailing bytes to standard output, in
 // hexadecimal, one a line, by length and then by unsigned byte order. Standard input is not read.
+#![tactic(auto)]
+
 use libc::STDOUT_FILENO;
 
 // The length of the whole text.

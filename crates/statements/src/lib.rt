@@ -3,6 +3,8 @@
 
 // Statements (types.rs) and their decoders. Each decoder takes any place and any bytes,
 // and answers the record that stands there and the place behind it, or that there is none.
+#![tactic(auto)]
+
 ghost use Rattle.std.specs.Prelude.{◌≡◌};
 ghost use Rattle.laws.specs.Parse.{then, got, many};
 ghost use Rattle.bincode.specs.Bincode.{byte_string, vec};
@@ -16,7 +18,7 @@ use types::{TransactionLocator, TransactionLocatorRange, ZERO_LOCATOR, ZERO_RANG
 use votes::{ACCEPT, Vote};
 
 // What a variant holds has bytes in it, so it stands beside the kind and not in it.
-#[derive(Drop)]
+#[derive(Clone, Copy)]
 pub enum StatementKind {
     Share,
     Vote,
@@ -25,7 +27,7 @@ pub enum StatementKind {
 
 // A Share has the place and the number of its bytes, a Vote its locator and vote, a VoteRange its
 // range. What a kind does not have is zero.
-#[derive(Drop)]
+#[derive(Clone, Copy)]
 pub struct BaseStatement {
     pub kind: StatementKind,
     pub start: usize,
@@ -35,7 +37,7 @@ pub struct BaseStatement {
     pub range: TransactionLocatorRange,
 }
 
-#[derive(Drop)]
+#[derive(Clone, Copy)]
 pub struct DecodedStatement {
     pub ok: bool,
     pub statement: BaseStatement,
@@ -43,7 +45,7 @@ pub struct DecodedStatement {
 }
 
 // A statement that a cursor came to, and the cursor behind it.
-#[derive(Drop)]
+#[derive(Clone, Copy)]
 pub struct NextStatement {
     pub ok: bool,
     pub statement: BaseStatement,

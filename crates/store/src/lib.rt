@@ -3,6 +3,8 @@
 
 // The block store (block_store.rs, BlockStore and BlockStoreInner): a value, whose index rows are lent, and the
 // checks with which its calls begin.
+#![tactic(auto)]
+
 ghost use Rattle.std.specs.Prelude.{◌≡◌, true, false, ◌+◌, ◌*◌, ◌≤◌, leb, ltb, length, get_or};
 ghost use Rattle.laws.specs.Pick.{pick};
 ghost use Rattle.rows.specs.Rows.{rows_of, ascendingb};
@@ -16,7 +18,7 @@ use wal::Walked;
 
 // The committee's size and the own authority, the index rows counted, the blocks read from the log
 // because they were not loaded, and the summary.
-#[derive(Drop)]
+#[derive(Clone, Copy)]
 pub struct BlockStore {
     pub committee_size: u64,
     pub authority: AuthorityIndex,
@@ -26,7 +28,7 @@ pub struct BlockStore {
 }
 
 // The refusal's number, or 0 and the store.
-#[derive(Drop)]
+#[derive(Clone, Copy)]
 pub struct Opened {
     pub number: u8,
     pub store: BlockStore,

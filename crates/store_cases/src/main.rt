@@ -11,6 +11,8 @@
 // index, answers and working rows, the image and the words of the index, each behind its length, and the
 // count of its calls. A call is its kind and its arguments; references and byte strings are as bincode
 // has them.
+#![tactic(auto)]
+
 ghost use Rattle.std.specs.Prelude.{◌≤◌};
 
 use case_lines::{
@@ -29,7 +31,7 @@ use types::{BlockReference, TransactionLocator};
 use wal::WalWriter;
 
 // The log's exponent and length, and the store.
-#[derive(Drop)]
+#[derive(Clone, Copy)]
 pub struct Setting {
     pub k: u64,
     pub used: u64,
@@ -361,7 +363,7 @@ fn do_linked(
 // ---- The cases
 
 // A setting, and where the next call stands.
-#[derive(Drop)]
+#[derive(Clone, Copy)]
 pub struct Step {
     pub setting: Setting,
     pub at: usize,

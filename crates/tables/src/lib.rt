@@ -1,5 +1,7 @@
 // Tables of rows that a caller lends: rows put, inserted, replaced, dropped, cleared. Lengths are in words,
 // counts in rows. Each function asks that its rows lie within the table: its callers have tested that.
+#![tactic(auto)]
+
 ghost use Rattle.std.specs.Prelude.{◌≡◌, ◌++◌, ◌+◌, ◌-◌, ◌*◌, ◌≤◌, length};
 ghost use Rattle.laws.specs.Bytes.{bytes_at, written, zeros};
 ghost use Rattle.rows.specs.Rows.{rows_of, Ascending, leading_below};
@@ -8,7 +10,7 @@ ghost use Rattle.tables.specs.Tables.{has_room, pushed, dropped, upserted, upser
 use rows::Place;
 
 // How many rows there are once a row is stored, or that there is no room for it.
-#[derive(Drop)]
+#[derive(Clone, Copy)]
 pub enum Upserted {
     Count(usize),
     Full,

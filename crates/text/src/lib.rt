@@ -1,5 +1,7 @@
 // Text into a buffer that the caller lends, as C's snprintf writes it: what does not fit is left out,
 // and the answer is where the text would end.
+#![tactic(auto)]
+
 ghost use Rattle.std.specs.Prelude.{◌+◌, ◌-◌, ◌≤◌, ◌<◌, ◌%◌, ◌^◌, ◌≡◌, [], ◌∷◌, length};
 ghost use Rattle.text.specs.Clipped.{clipped};
 ghost use Rattle.text.specs.Digits.{decimal, hex_digit, hex_digits, hex8, hex_bytes};

@@ -2,6 +2,8 @@
 // Changed: written anew in Rattle, with contracts. NOTICE says what was carried across and what was changed.
 
 // A transaction by its locator (block_store.rs, get_transaction). The answer is a part of the image.
+#![tactic(auto)]
+
 ghost use Rattle.std.specs.Prelude.{◌≡◌, [], ◌∷◌, ◌+◌, ◌*◌, ◌≤◌, length};
 ghost use Rattle.bincode.specs.Cursors.{next_element};
 ghost use Rattle.types.specs.Records.{statement};
@@ -17,7 +19,7 @@ use types::TransactionLocator;
 use wal_position::WalPosition;
 
 // A refusal's number, or 0 and the transaction, if there is one; and the store with the load counted.
-#[derive(Drop)]
+#[derive(Clone, Copy)]
 pub struct FoundTransaction {
     pub number: u8,
     pub share: Span,

@@ -5,6 +5,8 @@
 // any bytes, and answers the record that stands there and the place behind it, or that there is
 // none. specs/ has the records of votes, statements and blocks too; their decoders are the crates
 // votes, statements and blocks.
+#![tactic(auto)]
+
 ghost use Rattle.std.specs.Prelude.{◌≡◌, ◌+◌, ◌*◌};
 ghost use Rattle.laws.specs.Parse.{many};
 ghost use Rattle.bincode.specs.Bincode.{vec};
@@ -20,27 +22,27 @@ pub type AuthorityIndex = u64;
 
 pub type RoundNumber = u64;
 
-#[derive(Drop)]
+#[derive(Clone, Copy)]
 pub struct BlockReference {
     pub authority: AuthorityIndex,
     pub round: RoundNumber,
     pub digest: BlockDigest,
 }
 
-#[derive(Drop)]
+#[derive(Clone, Copy)]
 pub struct TransactionLocator {
     pub block: BlockReference,
     pub offset: u64,
 }
 
-#[derive(Drop)]
+#[derive(Clone, Copy)]
 pub struct TransactionLocatorRange {
     pub block: BlockReference,
     pub offset_start_inclusive: u64,
     pub offset_end_exclusive: u64,
 }
 
-#[derive(Drop)]
+#[derive(Clone, Copy)]
 pub struct DecodedReference {
     pub ok: bool,
     pub reference: BlockReference,
@@ -48,21 +50,21 @@ pub struct DecodedReference {
 }
 
 // A reference that a cursor came to, and the cursor behind it.
-#[derive(Drop)]
+#[derive(Clone, Copy)]
 pub struct NextReference {
     pub ok: bool,
     pub reference: BlockReference,
     pub rest: Cursor,
 }
 
-#[derive(Drop)]
+#[derive(Clone, Copy)]
 pub struct DecodedLocator {
     pub ok: bool,
     pub locator: TransactionLocator,
     pub end: usize,
 }
 
-#[derive(Drop)]
+#[derive(Clone, Copy)]
 pub struct DecodedRange {
     pub ok: bool,
     pub range: TransactionLocatorRange,

@@ -3,6 +3,8 @@
 
 // Votes (types.rs) and their decoder. It takes any place and any bytes, and answers the vote that
 // stands there and the place behind it, or that there is none.
+#![tactic(auto)]
+
 ghost use Rattle.std.specs.Prelude.{◌≡◌};
 ghost use Rattle.laws.specs.Parse.{then, got};
 ghost use Rattle.bincode.specs.Bincode.{option};
@@ -13,7 +15,7 @@ use bincode::{Flag, Number};
 use types::{TransactionLocator, ZERO_LOCATOR};
 
 // A locator has bytes in it, so it stands beside the kind and not in it.
-#[derive(Drop)]
+#[derive(Clone, Copy)]
 pub enum VoteKind {
     Accept,
     Reject,
@@ -21,13 +23,13 @@ pub enum VoteKind {
 }
 
 // `other` is what a RejectOther names, and zero otherwise.
-#[derive(Drop)]
+#[derive(Clone, Copy)]
 pub struct Vote {
     pub kind: VoteKind,
     pub other: TransactionLocator,
 }
 
-#[derive(Drop)]
+#[derive(Clone, Copy)]
 pub struct DecodedVote {
     pub ok: bool,
     pub vote: Vote,

@@ -1,6 +1,8 @@
 // Runs the small example of each row of the refusal table that the log's calls can give, damaged entries, and the
 // two logs of document 01 at every cut. The file `stdout` was made by tools/model/wal_cases.py, a model
 // written from document 01.
+#![tactic(auto)]
+
 ghost use Rattle.std.specs.Prelude.{◌≤◌, length};
 
 use case_lines::{end_line, number};

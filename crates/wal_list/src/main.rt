@@ -1,5 +1,7 @@
 // Lists a log: reads one byte, the region exponent, and then the image from standard input, and
 // writes the listing to standard output.
+#![tactic(auto)]
+
 ghost use Rattle.std.specs.Prelude.{◌≤◌, length};
 
 use libc::{STDIN_FILENO, STDOUT_FILENO};

@@ -1,0 +1,10 @@
+-- `types::past_references` meets its contract. Assumes nothing.
+use Rattle.laws.proofs.Parses.{Passing}
+use Rattle.types.specs.Records.{reference}
+use Rattle.types.proofs.past_references.Given as goal
+
+abbrev pub invariant-loop-left : goal.invariant-loop-left
+invariant-loop-left l = Passing reference l.s l.n l.at l.left l.p
+
+abbrev pub decreases-loop-left : goal.decreases-loop-left
+decreases-loop-left l = l.left

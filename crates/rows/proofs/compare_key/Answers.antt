@@ -1,11 +1,10 @@
 -- `rows::compare_key` meets its contract. Assumes nothing.
-use Prim.Native.Nat.{◌-◌}
 use native.Mathlib.Omega.{arith}
-use Rattle.rows.proofs.Comparing.{Comparing, comparing_start, comparing_below, comparing_above, comparing_next, comparing_done}
+use Rattle.rows.proofs.Comparing.{comparing_start, comparing_below, comparing_above, comparing_next, comparing_done}
 use Rattle.rows.proofs.compare_key.Goals as goal
 
 pub loop-j-init : goal.loop-j-init
-loop-j-init c = comparing_start c.args.t.now c.args.i c.args.t3
+loop-j-init c = comparing_start c.args.t.now c.args.i c.args.k
 
 pub returns-then-x-y : goal.returns-then-x-y
 returns-then-x-y c = comparing_below c.loop-j.invariant (omega arith) (omega arith) (omega arith) c.if-x-y.true

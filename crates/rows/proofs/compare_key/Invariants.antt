@@ -1,7 +1,6 @@
 -- `rows::compare_key` meets its contract. Assumes nothing.
 use Prim.Native.Nat.{◌-◌}
-use native.Mathlib.Omega.{arith}
-use Rattle.rows.proofs.Comparing.{Comparing, comparing_start, comparing_below, comparing_above, comparing_next, comparing_done}
+use Rattle.rows.proofs.Comparing.{Comparing}
 use Rattle.rows.proofs.compare_key.Given as goal
 
 abbrev pub invariant-loop-j : goal.invariant-loop-j

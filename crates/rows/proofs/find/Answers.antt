@@ -1,7 +1,6 @@
 -- `rows::find` meets its contract. Assumes nothing.
 use mathlib.Core.Path.{sym, ◌∙◌}
 use native.Mathlib.Omega.{arith}
-use borrow.Author.Rules.{rules}
 use Rattle.rows.proofs.Searching.{no_row_lem, last_below, last_at, last_above}
 use Rattle.rows.proofs.find.Goals as goal
 

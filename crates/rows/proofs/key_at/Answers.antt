@@ -1,5 +1,4 @@
 -- `rows::key_at` meets its contract. Assumes nothing.
-use borrow.Author.Rules.{rules}
 use Rattle.rows.proofs.Rows.{key_words_lem}
 use Rattle.rows.proofs.key_at.Goals as goal
 

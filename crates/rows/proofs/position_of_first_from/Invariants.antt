@@ -1,10 +1,8 @@
 -- `rows::position_of_first_from` meets its contract. Assumes nothing.
 use mathlib.Core.Path.{◌≡◌}
 use Prim.Native.Nat.{◌+◌, ◌-◌, ◌≤◌}
-use native.Mathlib.Omega.{arith}
 use Rattle.rows.specs.Rows.{rows_of, leading_below}
 use Rattle.rows.proofs.Rows.{rows_from}
-use Rattle.rows.proofs.Leading.{leading_start, leading_next, leading_stop, leading_done}
 use Rattle.rows.proofs.position_of_first_from.Given as goal
 
 abbrev pub invariant-loop-i : goal.invariant-loop-i

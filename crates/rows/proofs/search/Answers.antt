@@ -2,8 +2,7 @@
 use mathlib.Core.Path.{sym, ◌∙◌}
 use Prim.Native.Nat.{ℕ, ◌+◌, ◌-◌, ◌/◌}
 use native.Mathlib.Omega.{arith}
-use borrow.Author.Rules.{rules}
-use Rattle.rows.proofs.Searching.{Searched, searched_start, searched_below, searched_above, searched_at, searched_done}
+use Rattle.rows.proofs.Searching.{searched_start, searched_below, searched_above, searched_at, searched_done}
 use Rattle.rows.proofs.search.Goals as goal
 
 pub loop-low-init : goal.loop-low-init

@@ -1,9 +1,6 @@
 -- `rows::search` meets its contract. Assumes nothing.
-use mathlib.Core.Path.{sym, ◌∙◌}
-use Prim.Native.Nat.{ℕ, ◌+◌, ◌-◌, ◌/◌}
-use native.Mathlib.Omega.{arith}
-use borrow.Author.Rules.{rules}
-use Rattle.rows.proofs.Searching.{Searched, searched_start, searched_below, searched_above, searched_at, searched_done}
+use Prim.Native.Nat.{◌-◌}
+use Rattle.rows.proofs.Searching.{Searched}
 use Rattle.rows.proofs.search.Given as goal
 
 abbrev pub invariant-loop-low : goal.invariant-loop-low

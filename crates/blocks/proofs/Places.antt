@@ -12,7 +12,6 @@ use Rattle.bincode.specs.declared.Part.TheVariants as part
 use Rattle.bincode.specs.Bincode.{vec}
 use Rattle.bincode.specs.Answers.{part_answer}
 use Rattle.bincode.proofs.Found.{part_got}
-use Rattle.crypto.specs.Records.{signature}
 use Rattle.types.specs.declared.BlockReference.{BlockReference}
 use Rattle.types.specs.Records.{reference, statement, StatementValue, block, BlockValue}
 use Rattle.types.proofs.References.{reference_width, references_listed}

@@ -1,5 +1,4 @@
 -- `votes::decode_reject` meets its contract. Assumes nothing.
-use borrow.Author.Rules.{rules}
 use borrow.Author.Tests.{not-true, not-false}
 use mathlib.Core.Path.{◌≡◌}
 use Rattle.laws.specs.Pick.{pick}
@@ -29,7 +28,7 @@ returns-then-not-there c =
     let a = c.args in
     rw (
       there (goal.at.returns-then-not-there c).In-Got,
-      not-true c.in-Got.there c.if-not-there.true,
+      c.if-not-there.true,
     )
     c.plain_vote.ensures
 
@@ -39,7 +38,7 @@ returns-then-not-l c =
     let a = c.args in
     rw (
       there (goal.at.returns-then-not-l c).In-Got,
-      not-false c.in-Got.there c.if-not-there.false,
+      c.if-not-there.false,
       locator_told (locator a.s.now c.in-Got.p) c.decode_locator-l.ensures (not-true _ c.if-not-l.true),
     )
     c.no_vote-then-not-l.ensures
@@ -50,6 +49,6 @@ returns c =
     let a = c.args in
     rw (
       there (goal.at.returns c).In-Got,
-      not-false c.in-Got.there c.if-not-there.false,
+      c.if-not-there.false,
       locator_told (locator a.s.now c.in-Got.p) c.decode_locator-l.ensures (not-false _ c.if-not-l.false),
     )

@@ -1,5 +1,5 @@
 -- `votes::decode_vote` meets its contract. Assumes nothing.
-use borrow.Author.Rules.{rules}
+use native.Mathlib.Omega.{arith}
 use borrow.Author.Tests.{ne_eqb}
 use mathlib.Core.Path.{◌≡◌}
 use Rattle.laws.specs.Pick.{pick}
@@ -33,5 +33,5 @@ pub returns-in_default-variant : goal.returns-in_default-variant
 unfolding answer then pick vote
 returns-in_default-variant c =
     let v = c.in-Got.variant in
-    rw (variant (goal.at.returns-in_default-variant c).In-Got, ne_eqb v 0 c.match2.rest.0.1, ne_eqb v 1 c.match2.rest.1)
+    rw (variant (goal.at.returns-in_default-variant c).In-Got, ne_eqb v 0 (λ z. omega arith), ne_eqb v 1 (λ z. omega arith))
     c.no_vote-in_default-variant.ensures

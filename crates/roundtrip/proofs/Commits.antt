@@ -2,7 +2,7 @@
 use Rattle.laws.specs.Bytes.{le}
 use Rattle.laws.specs.Parse.{then}
 use Rattle.bincode.specs.Bincode.{vec_bytes, byte_string_bytes}
-use Rattle.types.specs.Records.{reference_bytes, block, block_bytes}
+use Rattle.types.specs.Records.{reference_bytes, block_bytes}
 use Rattle.commits.specs.Records.{own_block, own_block_bytes, commit_data, commit_data_bytes, commit, commit_bytes}
 use Rattle.roundtrip.proofs.Inverse.{Laid, Inverse}
 use Rattle.roundtrip.specs.Valid.{ValidOwnBlock, ValidCommit, ValidCommits}

@@ -4,7 +4,7 @@ use mathlib.Core.Bool.{Bool, true, false}
 use mathlib.Core.List.{List, []}
 use mathlib.Core.Logic.{inl, inr}
 use mathlib.Core.Option.{Option, none, some}
-use Prim.Native.Nat.{ℕ, zero, suc, ◌≤◌, ◌<◌}
+use Prim.Native.Nat.{ℕ, zero, suc, ◌+◌, ◌≤◌, ◌<◌}
 use native.Mathlib.Omega.{arith}
 use borrow.Author.Tests.{eq-eqb}
 use lib.Dec.{lit<}
@@ -175,8 +175,8 @@ module _ {A : Type 0} {f : Parser A} {layout : A → List ℕ} {Valid : A → Ty
       → many f (length xs) s p ≡ got xs e
   unfolding many joined then
   many_back nil h = ap (got []) (omega (arith, h.end))
-  many_back (more {x} {xs} v vs) h =
-      rw (inv.decoded x v (left (layout x) (joined layout xs) h), many_back vs (right (layout x) (joined layout xs) h))
+  many_back {p = p} (more {x} {xs} v vs) h =
+      rw (inv.decoded x v (left (layout x) (joined layout xs) h), many_back {p = p + length (layout x)} vs (right (layout x) (joined layout xs) h))
 
   pub many_forth : (s : List ℕ) → AllBytes s → (n p : ℕ) {xs : List A} {e : ℕ} → p ≤ length s → many f n s p ≡ got xs e
       → Laid (joined layout) (Every Valid) s p xs e

@@ -1,0 +1,19 @@
+-- `payloads::list_small` meets its contract. After i turns the lines of the first i payloads are put. Assumes nothing.
+use borrow.Author.Rules.{rules}
+use mathlib.Core.List.{[]}
+use Prim.Native.Nat.{◌-◌, ◌≤◌}
+use native.Mathlib.Omega.{arith}
+use lib.ListN.{take}
+use Rattle.laws.specs.Parse.{joined}
+use Rattle.text.specs.Put.{Put}
+use Rattle.text.proofs.Put.{put_length, put_none, put_next, put_all}
+use Rattle.payloads.specs.Small.{small_payloads, payload_line, small_text}
+use Rattle.payloads.proofs.Request13.{count}
+use Rattle.payloads.proofs.Lines.{lines_at_most}
+use Rattle.payloads.proofs.list_small.Given as goal
+
+abbrev pub invariant-loop-i : goal.invariant-loop-i
+invariant-loop-i l = (l.i ≤ 258) × Put 0 (joined payload_line (take l.i small_payloads)) l.initial.out l.out l.at
+
+abbrev pub decreases-loop-i : goal.decreases-loop-i
+decreases-loop-i l = 258 - l.i

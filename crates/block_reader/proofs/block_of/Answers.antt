@@ -1,0 +1,28 @@
+-- `block_reader::block_of` meets its contract: the tag says what the payload holds. Assumes nothing.
+use mathlib.Core.Path.{ap, ◌∙◌}
+use mathlib.Core.List.{List}
+use Prim.Native.Nat.{ℕ, ◌+◌}
+use Rattle.laws.specs.Bytes.{bytes_at}
+use Rattle.block_reader.specs.Reading.{plain_block, own_block_at, read_of}
+use Rattle.laws.proofs.Parts.{part_is}
+use Rattle.block_reader.proofs.Reading.{tag_plain, tag_own, tag_other}
+use Rattle.block_reader.proofs.block_of.Goals as goal
+
+pub returns-then-entry-eq1 : goal.returns-then-entry-eq1
+returns-then-entry-eq1 c =
+    let a = c.args in
+    c.plain_block.ensures
+    ∙ ap (λ (l : List ℕ). read_of (plain_block (a.entry.position.0 + 16) l)) (part_is a.image.now (a.entry.position.0 + 16) a.entry.len)
+    ∙ ap read_of (tag_plain (record { start = a.entry.position.0; tag = a.entry.tag; payload = bytes_at a.image.now (a.entry.position.0 + 16) a.entry.len }) c.if-entry-eq1.true)
+
+pub returns-then-entry-eq3 : goal.returns-then-entry-eq3
+returns-then-entry-eq3 c =
+    let a = c.args in
+    c.own_block.ensures
+    ∙ ap (λ (l : List ℕ). read_of (own_block_at (a.entry.position.0 + 16) l)) (part_is a.image.now (a.entry.position.0 + 16) a.entry.len)
+    ∙ ap read_of (tag_own (record { start = a.entry.position.0; tag = a.entry.tag; payload = bytes_at a.image.now (a.entry.position.0 + 16) a.entry.len }) c.if-entry-eq1.false c.if-entry-eq3.true)
+
+pub returns : goal.returns
+returns c =
+    let a = c.args in
+    c.no_block.ensures ∙ ap read_of (tag_other (record { start = a.entry.position.0; tag = a.entry.tag; payload = bytes_at a.image.now (a.entry.position.0 + 16) a.entry.len }) c.if-entry-eq1.false c.if-entry-eq3.false)

@@ -1,8 +1,8 @@
-// What the programs that run cases share: the numbers and parts of a case's bytes, words of a line on the standard output, and
-// checksums over words, so that a line can speak of a whole table.
+// What the programs that run cases share: their input, the numbers and parts of a case's bytes, words of a line on the standard
+// output, and checksums over words, so that a line can speak of a whole table.
 #![tactic(auto)]
 
-ghost use Rattle.std.specs.Prelude.{◌≡◌, ◌+◌, ltb, get_or};
+ghost use Rattle.std.specs.Prelude.{◌≡◌, ◌+◌, ◌≤◌, ltb, length, get_or, IfOk};
 ghost use Rattle.laws.specs.Bytes.{le};
 ghost use Rattle.laws.specs.Parse.{joined};
 ghost use Rattle.laws.specs.Pick.{pick};
@@ -10,10 +10,26 @@ ghost use Rattle.checksum.specs.Crc32.{feed};
 ghost use Rattle.case_lines.specs.Cases.{sum_of, part_of, number_at, behind_of, bytes_of, found_reference_bytes};
 
 use bincode::Number;
-use libc::STDOUT_FILENO;
+use std::io;
+use std::io::Read;
 use types::BlockReference;
 
 // ---- Reading
+
+// Reads until the buffer is full or the input ends, and returns how many bytes it put at the start of the buffer.
+pub fn read_full<R: Read>(input: &mut R, buf: &mut [u8]) -> io::Result<usize>
+    ensures { IfOk result (λ n. n ≤ length buf.new) }
+{
+    let mut done = 0;
+    while done < buf.len() {
+        let n = input.read(&mut buf[done..])?;
+        if n == 0 {
+            break;
+        }
+        done += n;
+    }
+    Ok(done)
+}
 
 // The sum, or a where it has more than 64 bits.
 pub fn plus(a: usize, b: usize) -> usize
@@ -111,30 +127,34 @@ pub fn feed_reference(register: u32, there: bool, reference: BlockReference) -> 
     checksum::update(three, &bytes)
 }
 
-// ---- Writing. No contract speaks of what a file was given, as none of `io` does.
+// ---- Writing. No contract speaks of what a file was given, as none of std does.
 
-pub fn blank() {
-    io::write_all(STDOUT_FILENO, b" ");
+pub fn blank(rt: &impl Print) -> io::Result<()> {
+    print!(rt; " ")
 }
 
-pub fn end_line() {
-    io::write_all(STDOUT_FILENO, b"\n");
+pub fn end_line(rt: &impl Print) -> io::Result<()> {
+    print!(rt; "\n")
 }
 
-pub fn number(n: u64) {
-    blank();
-    io::print_decimal(STDOUT_FILENO, n);
+pub fn number(rt: &impl Print, n: u64) -> io::Result<()> {
+    print!(rt; " {n}")
 }
 
-pub fn hex(n: u64, digits: usize) {
-    blank();
-    io::print_hex(STDOUT_FILENO, n, digits);
+pub fn hex(rt: &impl Print, n: u64, digits: usize) -> io::Result<()> {
+    print!(rt; " {n:0digits$x}")
 }
 
 // Whether bytes are there, where they begin, how many they are, and their checksum.
-pub fn show_place(image: &[u8], there: bool, at: usize, len: usize) {
-    number(there as u64);
-    number(at as u64);
-    number(len as u64);
-    hex(checksum::hash(part(image, at, plus(at, len))) as u64, 8);
+pub fn show_place(
+    rt: &impl Print,
+    image: &[u8],
+    there: bool,
+    at: usize,
+    len: usize,
+) -> io::Result<()> {
+    number(rt, there as u64)?;
+    number(rt, at as u64)?;
+    number(rt, len as u64)?;
+    hex(rt, checksum::hash(part(image, at, plus(at, len))) as u64, 8)
 }

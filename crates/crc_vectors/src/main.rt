@@ -4,17 +4,17 @@
 // and other CRC-32 libraries, and for the rest what zlib computes (tools/model/crc_vectors.py).
 #![tactic(auto)]
 
-use libc::STDOUT_FILENO;
+use std::io;
 
-fn show(bytes: &[u8]) {
-    io::print_hex(STDOUT_FILENO, checksum::hash(bytes) as u64, 8);
-    io::write_all(STDOUT_FILENO, b"\n");
+fn show(rt: &impl Print, bytes: &[u8]) -> io::Result<()> {
+    println!(rt; "{:08x}", checksum::hash(bytes))
 }
 
-fn show_first(n: usize, bytes: &[u8]) {
+fn show_first(rt: &impl Print, n: usize, bytes: &[u8]) -> io::Result<()> {
     if n <= bytes.len() {
-        show(&bytes[..n]);
+        show(rt, &bytes[..n])?;
     }
+    Ok(())
 }
 
 // The bytes start, start + step, .. modulo 256.
@@ -28,44 +28,50 @@ fn fill(bytes: &mut [u8], start: u8, step: u8) {
     }
 }
 
-fn texts() {
-    show(b"123456789");
-    show(b"");
-    show(b"a");
-    show(b"abc");
-    show(b"message digest");
-    show(b"abcdefghijklmnopqrstuvwxyz");
-    show(b"ABCDEFGHIJKLMNOPQRSTUVWXYZabcdefghijklmnopqrstuvwxyz0123456789");
-    show(b"12345678901234567890123456789012345678901234567890123456789012345678901234567890");
-    show(b"The quick brown fox jumps over the lazy dog");
+fn texts(rt: &impl Print) -> io::Result<()> {
+    show(rt, b"123456789")?;
+    show(rt, b"")?;
+    show(rt, b"a")?;
+    show(rt, b"abc")?;
+    show(rt, b"message digest")?;
+    show(rt, b"abcdefghijklmnopqrstuvwxyz")?;
+    show(
+        rt,
+        b"ABCDEFGHIJKLMNOPQRSTUVWXYZabcdefghijklmnopqrstuvwxyz0123456789",
+    )?;
+    show(
+        rt,
+        b"12345678901234567890123456789012345678901234567890123456789012345678901234567890",
+    )?;
+    show(rt, b"The quick brown fox jumps over the lazy dog")
 }
 
-fn bytes() {
-    show(&[0u8; 1]);
-    show(&[0xffu8; 1]);
-    show(&[0u8; 4]);
-    show(&[0xffu8; 4]);
-    show(&[0u8; 32]);
-    show(&[0xffu8; 32]);
+fn bytes(rt: &impl Print) -> io::Result<()> {
+    show(rt, &[0u8; 1])?;
+    show(rt, &[0xffu8; 1])?;
+    show(rt, &[0u8; 4])?;
+    show(rt, &[0xffu8; 4])?;
+    show(rt, &[0u8; 32])?;
+    show(rt, &[0xffu8; 32])
 }
 
-fn ascending() {
+fn ascending(rt: &impl Print) -> io::Result<()> {
     let mut short = [0u8; 32];
     fill(&mut short, 0, 1);
-    show(&short);
+    show(rt, &short)?;
     fill(&mut short, 31, 255);
-    show(&short);
+    show(rt, &short)?;
     let mut all = [0u8; 256];
     fill(&mut all, 0, 1);
-    show(&all);
+    show(rt, &all)
 }
 
-fn long() {
+fn long(rt: &impl Print) -> io::Result<()> {
     let mut zeros = [0u8; 65536];
-    show(&zeros);
+    show(rt, &zeros)?;
     fill(&mut zeros, 7, 13);
-    show(&zeros);
-    show_first(65521, &zeros);
+    show(rt, &zeros)?;
+    show_first(rt, 65521, &zeros)
 }
 
 // Bytes of which no two runs of 256 are alike, so that no lane is fed what another one is.
@@ -78,34 +84,34 @@ fn fill_apart(bytes: &mut [u8]) {
 }
 
 // Each number of octets at which blocks of eight lanes begin, one less and one more, and some that have blocks of each length.
-fn show_lengths(bytes: &[u8]) {
-    show_first(63, bytes);
-    show_first(64, bytes);
-    show_first(65, bytes);
-    show_first(127, bytes);
-    show_first(128, bytes);
-    show_first(129, bytes);
-    show_first(255, bytes);
-    show_first(256, bytes);
-    show_first(257, bytes);
-    show_first(1023, bytes);
-    show_first(1024, bytes);
-    show_first(1025, bytes);
-    show_first(1535, bytes);
-    show_first(8191, bytes);
-    show_first(8192, bytes);
+fn show_lengths(rt: &impl Print, bytes: &[u8]) -> io::Result<()> {
+    show_first(rt, 63, bytes)?;
+    show_first(rt, 64, bytes)?;
+    show_first(rt, 65, bytes)?;
+    show_first(rt, 127, bytes)?;
+    show_first(rt, 128, bytes)?;
+    show_first(rt, 129, bytes)?;
+    show_first(rt, 255, bytes)?;
+    show_first(rt, 256, bytes)?;
+    show_first(rt, 257, bytes)?;
+    show_first(rt, 1023, bytes)?;
+    show_first(rt, 1024, bytes)?;
+    show_first(rt, 1025, bytes)?;
+    show_first(rt, 1535, bytes)?;
+    show_first(rt, 8191, bytes)?;
+    show_first(rt, 8192, bytes)
 }
 
-fn lengths() {
+fn lengths(rt: &impl Print) -> io::Result<()> {
     let mut apart = [0u8; 8192];
     fill_apart(&mut apart);
-    show_lengths(&apart);
+    show_lengths(rt, &apart)
 }
 
-fn main() {
-    texts();
-    bytes();
-    ascending();
-    long();
-    lengths();
+fn main(rt: HostRuntime) -> io::Result<()> {
+    texts(&rt)?;
+    bytes(&rt)?;
+    ascending(&rt)?;
+    long(&rt)?;
+    lengths(&rt)
 }

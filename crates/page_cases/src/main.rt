@@ -16,7 +16,7 @@
 ghost use Rattle.std.specs.Prelude.{◌≤◌, length};
 
 use case_lines::{behind, blank, bytes_at, end_line, feed_table, hex, number, number_at, plus};
-use libc::{STDIN_FILENO, STDOUT_FILENO};
+use std::io;
 
 // The longest text of an input.
 const TEXT: usize = 309301;
@@ -43,17 +43,23 @@ pub struct Call {
 // ---- What is written
 
 // The length of the whole text, and the checksum of the buffer.
-fn show_length(length: usize, out: &[u8]) {
-    number(length as u64);
-    hex(checksum::hash(out) as u64, 8);
+fn show_length(rt: &impl Print, length: usize, out: &[u8]) -> io::Result<()> {
+    number(rt, length as u64)?;
+    hex(rt, checksum::hash(out) as u64, 8)
 }
 
-fn show_tables(pending: &[u64], unprocessed: &[u64], committed: &[u64], index: &[u64]) {
+fn show_tables(
+    rt: &impl Print,
+    pending: &[u64],
+    unprocessed: &[u64],
+    committed: &[u64],
+    index: &[u64],
+) -> io::Result<()> {
     let one = feed_table(0xffff_ffff, pending);
     let two = feed_table(one, unprocessed);
     let three = feed_table(two, committed);
     let four = feed_table(three, index);
-    hex(!four as u64, 8);
+    hex(rt, !four as u64, 8)
 }
 
 // The bytes of a buffer up to n, of those that are there.
@@ -63,25 +69,26 @@ fn held(n: usize, out: &[u8]) -> usize
     if n < out.len() { n } else { out.len() }
 }
 
-fn show_text(shown: u64, length: usize, out: &[u8]) {
-    end_line();
+fn show_text(rt: &impl Print, shown: u64, length: usize, out: &[u8]) -> io::Result<()> {
+    end_line(rt)?;
     if shown == 0 {
-        return;
+        return Ok(());
     }
     let n = held(length, out);
-    io::write_all(STDOUT_FILENO, &out[..n]);
-    end_line();
+    rt.write_all(&out[..n])?;
+    end_line(rt)
 }
 
 // ---- The calls
 
-fn ask_input(call: Call, input: &[u8], out: &mut [u8]) {
+fn ask_input(rt: &impl Print, call: Call, input: &[u8], out: &mut [u8]) -> io::Result<()> {
     let length = page::input_page(input, out);
-    show_length(length, out);
-    show_text(call.shown, length, out);
+    show_length(rt, length, out)?;
+    show_text(rt, call.shown, length, out)
 }
 
 fn ask_recovery(
+    rt: &impl Print,
     call: Call,
     image: &[u8],
     pending: &mut [u64],
@@ -89,7 +96,7 @@ fn ask_recovery(
     committed: &mut [u64],
     index: &mut [u64],
     out: &mut [u8],
-) {
+) -> io::Result<()> {
     let r = page::recovery_page(
         call.k,
         image,
@@ -102,10 +109,10 @@ fn ask_recovery(
         index,
         out,
     );
-    number(r.number as u64);
-    show_length(r.length, out);
-    show_tables(pending, unprocessed, committed, index);
-    show_text(call.shown, r.length, out);
+    number(rt, r.number as u64)?;
+    show_length(rt, r.length, out)?;
+    show_tables(rt, pending, unprocessed, committed, index)?;
+    show_text(rt, call.shown, r.length, out)
 }
 
 // The words lent, of those that are there.
@@ -121,6 +128,7 @@ fn within(n: u64, t: &[u64]) -> usize
 
 // Lends the tables, each as long as the case says.
 fn lend_tables(
+    rt: &impl Print,
     call: Call,
     image: &[u8],
     pending: &mut [u64],
@@ -128,12 +136,13 @@ fn lend_tables(
     committed: &mut [u64],
     index: &mut [u64],
     out: &mut [u8],
-) {
+) -> io::Result<()> {
     let p = within(call.pending, pending);
     let u = within(call.unprocessed, unprocessed);
     let c = within(call.committed, committed);
     let i = within(call.index, index);
     ask_recovery(
+        rt,
         call,
         image,
         &mut pending[..p],
@@ -141,15 +150,16 @@ fn lend_tables(
         &mut committed[..c],
         &mut index[..i],
         out,
-    );
+    )
 }
 
-fn run_recovery(call: Call, image: &[u8], out: &mut [u8]) {
+fn run_recovery(rt: &impl Print, call: Call, image: &[u8], out: &mut [u8]) -> io::Result<()> {
     let mut pending = [7u64; WORDS];
     let mut unprocessed = [7u64; WORDS];
     let mut committed = [7u64; WORDS];
     let mut index = [7u64; WORDS];
     lend_tables(
+        rt,
         call,
         image,
         &mut pending,
@@ -157,21 +167,21 @@ fn run_recovery(call: Call, image: &[u8], out: &mut [u8]) {
         &mut committed,
         &mut index,
         out,
-    );
+    )
 }
 
-fn run(call: Call, bytes: &[u8], out: &mut [u8]) {
+fn run(rt: &impl Print, call: Call, bytes: &[u8], out: &mut [u8]) -> io::Result<()> {
     if call.form == 0 {
-        ask_input(call, bytes, out);
+        ask_input(rt, call, bytes, out)
     } else {
-        run_recovery(call, bytes, out);
+        run_recovery(rt, call, bytes, out)
     }
 }
 
 // Lends the buffer, as long as the case says.
-fn lend_buffer(call: Call, bytes: &[u8], text: &mut [u8]) {
+fn lend_buffer(rt: &impl Print, call: Call, bytes: &[u8], text: &mut [u8]) -> io::Result<()> {
     let n = held(call.room as usize, text);
-    run(call, bytes, &mut text[..n]);
+    run(rt, call, bytes, &mut text[..n])
 }
 
 // ---- The cases
@@ -193,30 +203,31 @@ fn call_at(s: &[u8], at: usize) -> Call {
 }
 
 // The case at `at`, and the place behind it.
-fn show_case(s: &[u8], at: usize) -> usize {
+fn show_case(rt: &impl Print, s: &[u8], at: usize) -> io::Result<usize> {
     let name = plus(at, 88);
     let bytes = behind(s, name);
-    io::write_all(STDOUT_FILENO, bytes_at(s, name));
-    io::write_all(STDOUT_FILENO, b":");
+    rt.write_all(bytes_at(s, name))?;
+    print!(rt; ":")?;
     let mut text = [7u8; TEXT];
-    lend_buffer(call_at(s, at), bytes_at(s, bytes), &mut text);
-    behind(s, bytes)
+    lend_buffer(rt, call_at(s, at), bytes_at(s, bytes), &mut text)?;
+    Ok(behind(s, bytes))
 }
 
-fn show_all(s: &[u8]) {
+fn show_all(rt: &impl Print, s: &[u8]) -> io::Result<()> {
     let count = number_at(s, 0);
     let mut at = 8;
     let mut i = 0;
     while i < count {
         i += 1;
-        io::print_decimal(STDOUT_FILENO, i);
-        blank();
-        at = show_case(s, at);
+        print!(rt; "{i}")?;
+        blank(rt)?;
+        at = show_case(rt, s, at)?;
     }
+    Ok(())
 }
 
-fn main() {
+fn main(rt: HostRuntime) -> io::Result<()> {
     let mut input = [0u8; 524288];
-    let n = io::read_full(STDIN_FILENO, &mut input);
-    show_all(&input[..n]);
+    let n = case_lines::read_full(&mut rt.stdin(), &mut input)?;
+    show_all(&rt, &input[..n])
 }

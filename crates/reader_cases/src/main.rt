@@ -6,46 +6,52 @@
 #![tactic(auto)]
 
 use case_lines::{end_line, hex, number, part};
-use libc::STDOUT_FILENO;
 use meta_statement::{MetaKind, MetaStatement};
+use std::io;
 use wal::{Place, Stop, WalEntry, WalPosition, WalWriter, WalkStep};
 use wal_iterator::Stepped;
 
 // ---- Lines
 
-fn refused(n: u8) {
-    io::write_all(STDOUT_FILENO, b" REFUSED");
-    number(n as u64);
+fn refused(rt: &impl Print, n: u8) -> io::Result<()> {
+    print!(rt; " REFUSED")?;
+    number(rt, n as u64)
 }
 
-fn word(stop: Stop) {
+fn word(rt: &impl Print, stop: Stop) -> io::Result<()> {
     match stop {
-        Stop::End => io::write_all(STDOUT_FILENO, b" END"),
-        Stop::Zeros => io::write_all(STDOUT_FILENO, b" ZEROS"),
-        Stop::Torn => io::write_all(STDOUT_FILENO, b" TORN"),
-    };
+        Stop::End => print!(rt; " END"),
+        Stop::Zeros => print!(rt; " ZEROS"),
+        Stop::Torn => print!(rt; " TORN"),
+    }
 }
 
 // ---- Writing a log
 
-fn show_place(place: Place, used: u64) {
-    io::write_all(STDOUT_FILENO, b"append");
+fn show_place(rt: &impl Print, place: Place, used: u64) -> io::Result<()> {
+    print!(rt; "append")?;
     match place {
-        Place::Start(position) => number(position.0),
-        Place::No(n) => refused(n),
+        Place::Start(position) => number(rt, position.0)?,
+        Place::No(n) => refused(rt, n)?,
     }
-    io::write_all(STDOUT_FILENO, b" used");
-    number(used);
-    end_line();
+    print!(rt; " used")?;
+    number(rt, used)?;
+    end_line(rt)
 }
 
 // Appends, shows the answer and the writer's used, and gives the writer back.
-fn put(writer: WalWriter, image: &mut [u8], tag: u32, payload: &[u8]) -> WalWriter {
+fn put(
+    rt: &impl Print,
+    writer: WalWriter,
+    image: &mut [u8],
+    tag: u32,
+    payload: &[u8],
+) -> io::Result<WalWriter> {
     let moved = wal_iterator::append_through(writer, image, tag, payload);
     let after = moved.writer;
     let place = moved.place;
-    show_place(place, after.used);
-    after
+    show_place(rt, place, after.used)?;
+    Ok(after)
 }
 
 // A block of authority 2 in round 3, without includes or statements.
@@ -91,178 +97,179 @@ fn share() -> [u8; 23] {
 }
 
 // The first region, of 256 bytes: a payload, a block, and a payload that does not decode.
-fn first_region(image: &mut [u8]) -> WalWriter {
+fn first_region(rt: &impl Print, image: &mut [u8]) -> io::Result<WalWriter> {
     let empty = WalWriter {
         exponent: 8,
         used: 0,
     };
-    let one = put(empty, image, 2, &share());
-    let two = put(one, image, 1, &block());
-    put(two, image, 2, b"1234567")
+    let one = put(rt, empty, image, 2, &share())?;
+    let two = put(rt, one, image, 1, &block())?;
+    put(rt, two, image, 2, b"1234567")
 }
 
 // The second: a block that does not decode, an empty entry, and a payload too long for a region, which is refused.
-fn second_region(writer: WalWriter, image: &mut [u8]) -> WalWriter {
-    let one = put(writer, image, 1, &bad_block());
-    let two = put(one, image, 4, b"");
+fn second_region(rt: &impl Print, writer: WalWriter, image: &mut [u8]) -> io::Result<WalWriter> {
+    let one = put(rt, writer, image, 1, &bad_block())?;
+    let two = put(rt, one, image, 4, b"")?;
     let long = [b'x'; 241];
-    put(two, image, 2, &long)
+    put(rt, two, image, 2, &long)
 }
 
 // The third: an own block, an entry of a tag that stands for nothing, and a payload of no statement.
-fn third_region(writer: WalWriter, image: &mut [u8]) -> WalWriter {
-    let one = put(writer, image, 3, &own_block());
-    let two = put(one, image, 6, b"123456789");
-    put(two, image, 2, &[0u8; 8])
+fn third_region(rt: &impl Print, writer: WalWriter, image: &mut [u8]) -> io::Result<WalWriter> {
+    let one = put(rt, writer, image, 3, &own_block())?;
+    let two = put(rt, one, image, 6, b"123456789")?;
+    put(rt, two, image, 2, &[0u8; 8])
 }
 
 // Appends that are refused: the image has no room, the exponent is too low, used is past the image.
-fn refused_appends(writer: WalWriter, image: &mut [u8]) {
-    put(writer, image, 1, &block());
+fn refused_appends(rt: &impl Print, writer: WalWriter, image: &mut [u8]) -> io::Result<()> {
+    put(rt, writer, image, 1, &block())?;
     let low = WalWriter {
         exponent: 5,
         used: 0,
     };
-    put(low, image, 2, b"");
+    put(rt, low, image, 2, b"")?;
     let past = WalWriter {
         exponent: 8,
         used: 801,
     };
-    put(past, image, 2, b"");
+    put(rt, past, image, 2, b"")?;
+    Ok(())
 }
 
 // The log, and the length that it has.
-fn write_log(image: &mut [u8]) -> u64 {
-    let one = first_region(image);
-    let two = second_region(one, image);
-    let three = third_region(two, image);
-    refused_appends(three, image);
-    three.used
+fn write_log(rt: &impl Print, image: &mut [u8]) -> io::Result<u64> {
+    let one = first_region(rt, image)?;
+    let two = second_region(rt, one, image)?;
+    let three = third_region(rt, two, image)?;
+    refused_appends(rt, three, image)?;
+    Ok(three.used)
 }
 
 // ---- Reading it
 
 // The authority, the round and the digest's checksum.
-fn show_include(m: MetaStatement) {
+fn show_include(rt: &impl Print, m: MetaStatement) -> io::Result<()> {
     let r = m.reference;
     let digest = r.digest;
     let bytes = digest.0;
-    io::write_all(STDOUT_FILENO, b"include");
-    number(r.authority);
-    number(r.round);
-    hex(checksum::hash(&bytes) as u64, 8);
-    end_line();
+    print!(rt; "include")?;
+    number(rt, r.authority)?;
+    number(rt, r.round)?;
+    hex(rt, checksum::hash(&bytes) as u64, 8)?;
+    end_line(rt)
 }
 
 // The number of statements, and where the first stands in the payload.
-fn show_payload(m: MetaStatement) {
+fn show_payload(rt: &impl Print, m: MetaStatement) -> io::Result<()> {
     let statements = m.statements;
-    io::write_all(STDOUT_FILENO, b"payload");
-    number(statements.left as u64);
-    number(statements.at as u64);
-    end_line();
+    print!(rt; "payload")?;
+    number(rt, statements.left as u64)?;
+    number(rt, statements.at as u64)?;
+    end_line(rt)
 }
 
-fn show_meta(m: MetaStatement) {
+fn show_meta(rt: &impl Print, m: MetaStatement) -> io::Result<()> {
     let kind = m.kind;
     match kind {
         MetaKind::Nothing => {
-            io::write_all(STDOUT_FILENO, b"nothing");
-            end_line();
+            print!(rt; "nothing")?;
+            end_line(rt)
         }
-        MetaKind::Include => show_include(m),
-        MetaKind::Payload => show_payload(m),
+        MetaKind::Include => show_include(rt, m),
+        MetaKind::Payload => show_payload(rt, m),
     }
 }
 
-fn show_entry(image: &[u8], entry: WalEntry, end: WalPosition) {
-    number(entry.position.0);
-    number(entry.tag as u64);
-    number(entry.len);
-    hex(entry.checksum as u64, 8);
-    show_end(end);
+fn show_entry(rt: &impl Print, image: &[u8], entry: WalEntry, end: WalPosition) -> io::Result<()> {
+    number(rt, entry.position.0)?;
+    number(rt, entry.tag as u64)?;
+    number(rt, entry.len)?;
+    hex(rt, entry.checksum as u64, 8)?;
+    show_end(rt, end)?;
     let start = entry.position.add(16);
     let payload = part(image, start.0 as usize, end.0 as usize);
-    show_meta(meta_statement::into_meta_statement(entry.tag, payload));
+    show_meta(rt, meta_statement::into_meta_statement(entry.tag, payload))
 }
 
-fn show_end(end: WalPosition) {
-    io::write_all(STDOUT_FILENO, b" E");
-    number(end.0);
-    end_line();
+fn show_end(rt: &impl Print, end: WalPosition) -> io::Result<()> {
+    print!(rt; " E")?;
+    number(rt, end.0)?;
+    end_line(rt)
 }
 
 // What a step answered, and E after it.
-fn show_step(image: &[u8], stepped: Stepped) {
+fn show_step(rt: &impl Print, image: &[u8], stepped: Stepped) -> io::Result<()> {
     let step = stepped.step;
     let end = stepped.position;
-    io::write_all(STDOUT_FILENO, b"next");
+    print!(rt; "next")?;
     match step {
-        WalkStep::Entry(entry) => show_entry(image, entry, end),
+        WalkStep::Entry(entry) => show_entry(rt, image, entry, end),
         WalkStep::Stopped(stop) => {
-            word(stop);
-            show_end(end);
+            word(rt, stop)?;
+            show_end(rt, end)
         }
         WalkStep::Refused(n, start) => {
-            refused(n);
-            number(start.0);
-            show_end(end);
+            refused(rt, n)?;
+            number(rt, start.0)?;
+            show_end(rt, end)
         }
     }
 }
 
 // The steps of an iterator from the log's start up to its stop or refusal, and E then.
-fn show_steps(k: u64, image: &[u8], used: u64) -> WalPosition {
+fn show_steps(rt: &impl Print, k: u64, image: &[u8], used: u64) -> io::Result<WalPosition> {
     let mut e = WalPosition(0);
     loop {
         let stepped = wal_iterator::step_through(k, image, used, e);
-        show_step(image, stepped);
+        show_step(rt, image, stepped)?;
         let step = stepped.step;
         match step {
             WalkStep::Entry(_) => {
                 e = stepped.position;
             }
             WalkStep::Stopped(_) => {
-                return stepped.position;
+                return Ok(stepped.position);
             }
             WalkStep::Refused(_, _) => {
-                return stepped.position;
+                return Ok(stepped.position);
             }
         }
     }
 }
 
 // The same, and one step more: the iterator is where the stop or refusal left it, and answers the same again.
-fn show_log(k: u64, image: &[u8], used: u64) {
-    io::write_all(STDOUT_FILENO, b"log");
-    number(k);
-    number(used);
-    end_line();
-    let e = show_steps(k, image, used);
-    show_step(image, wal_iterator::step_through(k, image, used, e));
+fn show_log(rt: &impl Print, k: u64, image: &[u8], used: u64) -> io::Result<()> {
+    print!(rt; "log")?;
+    number(rt, k)?;
+    number(rt, used)?;
+    end_line(rt)?;
+    let e = show_steps(rt, k, image, used)?;
+    show_step(rt, image, wal_iterator::step_through(k, image, used, e))
 }
 
 // The log at some cuts, and with an exponent and a used that every call refuses.
-fn show_cuts(image: &[u8], used: u64) {
-    show_log(8, image, used);
-    show_log(8, image, 700);
-    show_log(8, image, 600);
-    show_log(8, image, 500);
-    show_log(8, image, 440);
-    show_log(8, image, 0);
-    show_log(5, image, used);
-    show_log(8, image, 801);
+fn show_cuts(rt: &impl Print, image: &[u8], used: u64) -> io::Result<()> {
+    show_log(rt, 8, image, used)?;
+    show_log(rt, 8, image, 700)?;
+    show_log(rt, 8, image, 600)?;
+    show_log(rt, 8, image, 500)?;
+    show_log(rt, 8, image, 440)?;
+    show_log(rt, 8, image, 0)?;
+    show_log(rt, 5, image, used)?;
+    show_log(rt, 8, image, 801)
 }
 
-fn main() {
+fn main(rt: HostRuntime) -> io::Result<()> {
     let mut image = [0u8; 800];
-    let used = write_log(&mut image);
-    show_cuts(&image, used);
+    let used = write_log(&rt, &mut image)?;
+    show_cuts(&rt, &image, used)?;
     // The second entry's payload, its length, and its length with a checksum that is not 0.
     image[70] = 1;
-    show_log(8, &image, used);
+    show_log(&rt, 8, &image, used)?;
     image[47] = 15;
-    show_log(8, &image, used);
+    show_log(&rt, 8, &image, used)?;
     image[47] = 0;
-    show_log(8, &image, used);
+    show_log(&rt, 8, &image, used)
 }

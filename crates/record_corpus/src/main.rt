@@ -9,8 +9,8 @@ use case_lines::{end_line, hex, more, number, part, plus};
 use commits::Commit;
 use encode::Encoded;
 use encode_blocks::BlockFields;
-use libc::{STDIN_FILENO, STDOUT_FILENO};
 use statements::StatementKind;
+use std::io;
 
 // What was asked of a record so far.
 #[derive(Clone, Copy)]
@@ -224,56 +224,58 @@ fn ask_damaged(kind: u8, s: &mut [u8], tally: Tally) -> Tally {
     t
 }
 
-fn show_block(s: &[u8], at: usize) {
+fn show_block(rt: &impl Print, s: &[u8], at: usize) -> io::Result<()> {
     let d = blocks::decode_block(s, at);
     let b = d.block;
     let reference = b.reference;
     let includes = b.includes;
     let statements = b.statements;
     let time = b.meta_creation_time_ns;
-    number(reference.authority);
-    number(reference.round);
-    number(includes.left as u64);
-    number(statements.left as u64);
-    number(time.low);
-    number(time.high);
-    number(b.epoch_marker as u64);
+    number(rt, reference.authority)?;
+    number(rt, reference.round)?;
+    number(rt, includes.left as u64)?;
+    number(rt, statements.left as u64)?;
+    number(rt, time.low)?;
+    number(rt, time.high)?;
+    number(rt, b.epoch_marker as u64)
 }
 
-fn show_fixed(kind: u8, s: &[u8]) {
+fn show_fixed(rt: &impl Print, kind: u8, s: &[u8]) -> io::Result<()> {
     if kind == 1 {
         let d = types::decode_reference(s, 0);
-        number(d.reference.authority);
-        number(d.reference.round);
+        number(rt, d.reference.authority)?;
+        number(rt, d.reference.round)?;
     }
     if kind == 2 {
         let d = types::decode_locator(s, 0);
-        number(d.locator.block.authority);
-        number(d.locator.block.round);
-        number(d.locator.offset);
+        number(rt, d.locator.block.authority)?;
+        number(rt, d.locator.block.round)?;
+        number(rt, d.locator.offset)?;
     }
     if kind == 3 {
         let d = types::decode_range(s, 0);
-        number(d.range.block.authority);
-        number(d.range.offset_start_inclusive);
-        number(d.range.offset_end_exclusive);
+        number(rt, d.range.block.authority)?;
+        number(rt, d.range.offset_start_inclusive)?;
+        number(rt, d.range.offset_end_exclusive)?;
     }
+    Ok(())
 }
 
 // The values of some fields, so that two fields exchanged on both ways would show.
-fn show_fields(kind: u8, s: &[u8]) {
-    show_fixed(kind, s);
+fn show_fields(rt: &impl Print, kind: u8, s: &[u8]) -> io::Result<()> {
+    show_fixed(rt, kind, s)?;
     if kind == 5 {
-        show_block(s, 0);
+        show_block(rt, s, 0)?;
     }
     if kind == 7 {
         let d = commits::decode_own_block(s, 0);
-        number(d.own_block.next_entry.0);
-        show_block(s, 8);
+        number(rt, d.own_block.next_entry.0)?;
+        show_block(rt, s, 8)?;
     }
+    Ok(())
 }
 
-fn show(kind: u8, s: &mut [u8]) {
+fn show(rt: &impl Print, kind: u8, s: &mut [u8]) -> io::Result<()> {
     let start = Tally {
         register: 0xffff_ffff,
         accepted: 0,
@@ -281,12 +283,12 @@ fn show(kind: u8, s: &mut [u8]) {
     let whole = ask(kind, s, start);
     let cut = ask_cuts(kind, s, whole);
     let t = ask_damaged(kind, s, cut);
-    io::print_decimal(STDOUT_FILENO, kind as u64);
-    number(s.len() as u64);
-    number(t.accepted);
-    hex(!t.register as u64, 8);
-    show_fields(kind, s);
-    end_line();
+    print!(rt; "{kind}")?;
+    number(rt, s.len() as u64)?;
+    number(rt, t.accepted)?;
+    hex(rt, !t.register as u64, 8)?;
+    show_fields(rt, kind, s)?;
+    end_line(rt)
 }
 
 // A record's head: kind and length.
@@ -297,33 +299,34 @@ fn record_end(s: &[u8], at: usize) -> usize {
 }
 
 // The record at `at`, where it is whole, and the place behind it; otherwise the end.
-fn show_at(s: &mut [u8], at: usize) -> usize {
+fn show_at(rt: &impl Print, s: &mut [u8], at: usize) -> io::Result<usize> {
     let kind = byte_at(s, at);
     let start = plus(at, 3);
     let end = record_end(s, at);
     if start <= end {
         if end <= s.len() {
-            show(kind, &mut s[start..end]);
-            return end;
+            show(rt, kind, &mut s[start..end])?;
+            return Ok(end);
         }
     }
-    s.len()
+    Ok(s.len())
 }
 
-fn show_all(s: &mut [u8]) {
+fn show_all(rt: &impl Print, s: &mut [u8]) -> io::Result<()> {
     let mut at = 0;
     let mut turns = s.len();
     while turns > 0 {
         if s.len() <= at {
-            return;
+            return Ok(());
         }
-        at = show_at(s, at);
+        at = show_at(rt, s, at)?;
         turns -= 1;
     }
+    Ok(())
 }
 
-fn main() {
+fn main(rt: HostRuntime) -> io::Result<()> {
     let mut input = [0u8; 8192];
-    let n = io::read_full(STDIN_FILENO, &mut input);
-    show_all(&mut input[..n]);
+    let n = case_lines::read_full(&mut rt.stdin(), &mut input)?;
+    show_all(&rt, &mut input[..n])
 }

@@ -20,9 +20,9 @@ use case_lines::{
     number_at, plus, show_place, word_at,
 };
 use index::{FoundReference, StoreSummary};
-use libc::{STDIN_FILENO, STDOUT_FILENO};
 use recovery::Recovered;
 use state::{Replay, Span};
+use std::io;
 use wal::{Stop, Walked};
 use wal_position::WalPosition;
 
@@ -40,12 +40,12 @@ pub struct Call {
     pub index: u64,
 }
 
-fn word(stop: Stop) {
+fn word(rt: &impl Print, stop: Stop) -> io::Result<()> {
     match stop {
-        Stop::End => io::write_all(STDOUT_FILENO, b"END"),
-        Stop::Zeros => io::write_all(STDOUT_FILENO, b"ZEROS"),
-        Stop::Torn => io::write_all(STDOUT_FILENO, b"TORN"),
-    };
+        Stop::End => print!(rt; "END"),
+        Stop::Zeros => print!(rt; "ZEROS"),
+        Stop::Torn => print!(rt; "TORN"),
+    }
 }
 
 // ---- Checksums
@@ -92,118 +92,121 @@ fn feed_state(register: u32, s: Replay) -> u32 {
 
 // ---- The state in full
 
-fn show_sum(register: u32) {
-    hex(!register as u64, 8);
-    end_line();
+fn show_sum(rt: &impl Print, register: u32) -> io::Result<()> {
+    hex(rt, !register as u64, 8)?;
+    end_line(rt)
 }
 
 // The count of a table and a checksum of all its words.
-fn show_table(name: &[u8], t: &[u64], count: usize) {
-    io::write_all(STDOUT_FILENO, name);
-    number(count as u64);
-    show_sum(feed_table(0xffff_ffff, t));
+fn show_table(rt: &impl Print, name: &[u8], t: &[u64], count: usize) -> io::Result<()> {
+    rt.write_all(name)?;
+    number(rt, count as u64)?;
+    show_sum(rt, feed_table(0xffff_ffff, t))
 }
 
 // Position, kind, and the reference's round, authority and first word of the digest, or the length.
-fn show_pending_row(t: &[u64], at: usize) {
-    io::print_decimal(STDOUT_FILENO, word_at(t, at));
-    number(word_at(t, plus(at, 1)));
-    number(word_at(t, plus(at, 2)));
-    number(word_at(t, plus(at, 3)));
-    hex(word_at(t, plus(at, 4)), 16);
-    end_line();
+fn show_pending_row(rt: &impl Print, t: &[u64], at: usize) -> io::Result<()> {
+    print!(rt; "{}", word_at(t, at))?;
+    number(rt, word_at(t, plus(at, 1)))?;
+    number(rt, word_at(t, plus(at, 2)))?;
+    number(rt, word_at(t, plus(at, 3)))?;
+    hex(rt, word_at(t, plus(at, 4)), 16)?;
+    end_line(rt)
 }
 
 // Round, authority, first word of the digest, position.
-fn show_block_row(t: &[u64], at: usize) {
-    io::print_decimal(STDOUT_FILENO, word_at(t, at));
-    number(word_at(t, plus(at, 1)));
-    hex(word_at(t, plus(at, 2)), 16);
-    number(word_at(t, plus(at, 6)));
-    end_line();
+fn show_block_row(rt: &impl Print, t: &[u64], at: usize) -> io::Result<()> {
+    print!(rt; "{}", word_at(t, at))?;
+    number(rt, word_at(t, plus(at, 1)))?;
+    hex(rt, word_at(t, plus(at, 2)), 16)?;
+    number(rt, word_at(t, plus(at, 6)))?;
+    end_line(rt)
 }
 
-fn show_pending(t: &[u64], count: usize) {
-    show_table(b"pending", t, count);
+fn show_pending(rt: &impl Print, t: &[u64], count: usize) -> io::Result<()> {
+    show_table(rt, b"pending", t, count)?;
     let mut at = 0;
     let mut i = 0;
     while i < count {
-        show_pending_row(t, at);
+        show_pending_row(rt, t, at)?;
         at = plus(at, 8);
         i += 1;
     }
+    Ok(())
 }
 
-fn show_blocks(name: &[u8], t: &[u64], count: usize) {
-    show_table(name, t, count);
+fn show_blocks(rt: &impl Print, name: &[u8], t: &[u64], count: usize) -> io::Result<()> {
+    show_table(rt, name, t, count)?;
     let mut at = 0;
     let mut i = 0;
     while i < count {
-        show_block_row(t, at);
+        show_block_row(rt, t, at)?;
         at = plus(at, 8);
         i += 1;
     }
+    Ok(())
 }
 
-fn show_span(name: &[u8], image: &[u8], s: Span) {
-    io::write_all(STDOUT_FILENO, name);
+fn show_span(rt: &impl Print, name: &[u8], image: &[u8], s: Span) -> io::Result<()> {
+    rt.write_all(name)?;
     match s {
-        Span::Nothing => show_place(image, false, 0, 0),
-        Span::At(at, len) => show_place(image, true, at, len),
+        Span::Nothing => show_place(rt, image, false, 0, 0)?,
+        Span::At(at, len) => show_place(rt, image, true, at, len)?,
     }
-    end_line();
+    end_line(rt)
 }
 
 // Whether it is there, round, authority and the first word of the digest.
-fn show_reference(name: &[u8], f: FoundReference) {
+fn show_reference(rt: &impl Print, name: &[u8], f: FoundReference) -> io::Result<()> {
     let r = f.reference;
     let key = index::key_of(r);
-    io::write_all(STDOUT_FILENO, name);
-    number(f.there as u64);
-    number(r.round);
-    number(r.authority);
-    hex(key[2], 16);
-    end_line();
+    rt.write_all(name)?;
+    number(rt, f.there as u64)?;
+    number(rt, r.round)?;
+    number(rt, r.authority)?;
+    hex(rt, key[2], 16)?;
+    end_line(rt)
 }
 
 // The highest round, the last seen rounds of the first four authorities, and a checksum of them all.
-fn show_summary(s: StoreSummary) {
+fn show_summary(rt: &impl Print, s: StoreSummary) -> io::Result<()> {
     let seen = s.last_seen_by_authority;
     let last = s.last_own_block;
-    io::write_all(STDOUT_FILENO, b"highest");
-    number(s.highest_round);
-    io::write_all(STDOUT_FILENO, b" seen");
-    number(seen[0]);
-    number(seen[1]);
-    number(seen[2]);
-    number(seen[3]);
-    show_sum(feed_table(0xffff_ffff, &seen));
-    show_reference(b"own reference", last);
+    print!(rt; "highest")?;
+    number(rt, s.highest_round)?;
+    print!(rt; " seen")?;
+    number(rt, seen[0])?;
+    number(rt, seen[1])?;
+    number(rt, seen[2])?;
+    number(rt, seen[3])?;
+    show_sum(rt, feed_table(0xffff_ffff, &seen))?;
+    show_reference(rt, b"own reference", last)
 }
 
 fn show_replay(
+    rt: &impl Print,
     image: &[u8],
     s: Replay,
     pending: &[u64],
     unprocessed: &[u64],
     committed: &[u64],
     index: &[u64],
-) {
+) -> io::Result<()> {
     let blocks = s.blocks;
     let summary = blocks.summary;
     let last_own = s.last_own_block;
     let state = s.state;
     let committed_state = s.committed_state;
     let leader = s.last_committed_leader;
-    show_pending(pending, s.pending);
-    show_blocks(b"unprocessed", unprocessed, blocks.unprocessed);
-    show_blocks(b"committed", committed, s.committed);
-    show_blocks(b"index", index, blocks.index);
-    show_span(b"own block", image, last_own);
-    show_span(b"state", image, state);
-    show_span(b"committed state", image, committed_state);
-    show_reference(b"leader", leader);
-    show_summary(summary);
+    show_pending(rt, pending, s.pending)?;
+    show_blocks(rt, b"unprocessed", unprocessed, blocks.unprocessed)?;
+    show_blocks(rt, b"committed", committed, s.committed)?;
+    show_blocks(rt, b"index", index, blocks.index)?;
+    show_span(rt, b"own block", image, last_own)?;
+    show_span(rt, b"state", image, state)?;
+    show_span(rt, b"committed state", image, committed_state)?;
+    show_reference(rt, b"leader", leader)?;
+    show_summary(rt, summary)
 }
 
 // ---- The answer
@@ -224,41 +227,50 @@ fn counted(n: u64, w: u64) -> u64 {
 }
 
 fn show_refusal(
+    rt: &impl Print,
     refusal: u8,
     start: WalPosition,
     pending: &[u64],
     unprocessed: &[u64],
     committed: &[u64],
     index: &[u64],
-) {
+) -> io::Result<()> {
     let one = count_words(0, pending);
     let two = count_words(one, unprocessed);
     let three = count_words(two, committed);
     let four = count_words(three, index);
-    io::write_all(STDOUT_FILENO, b"REFUSED");
-    number(refusal as u64);
-    number(start.0);
-    number(four);
-    end_line();
+    print!(rt; "REFUSED")?;
+    number(rt, refusal as u64)?;
+    number(rt, start.0)?;
+    number(rt, four)?;
+    end_line(rt)
 }
 
-fn show_stop(stop: Stop, end: WalPosition, unread: u64) {
-    word(stop);
-    number(end.0);
-    number(unread);
+fn show_stop(rt: &impl Print, stop: Stop, end: WalPosition, unread: u64) -> io::Result<()> {
+    word(rt, stop)?;
+    number(rt, end.0)?;
+    number(rt, unread)
 }
 
 // A checksum of the state and every word of the tables.
-fn show_line(s: Replay, pending: &[u64], unprocessed: &[u64], committed: &[u64], index: &[u64]) {
+fn show_line(
+    rt: &impl Print,
+    s: Replay,
+    pending: &[u64],
+    unprocessed: &[u64],
+    committed: &[u64],
+    index: &[u64],
+) -> io::Result<()> {
     let one = feed_table(0xffff_ffff, pending);
     let two = feed_table(one, unprocessed);
     let three = feed_table(two, committed);
     let four = feed_table(three, index);
-    show_sum(feed_state(four, s));
+    show_sum(rt, feed_state(four, s))
 }
 
 // In full, or as a checksum in the stop's line.
 fn show_state(
+    rt: &impl Print,
     form: u64,
     image: &[u8],
     s: Replay,
@@ -266,16 +278,16 @@ fn show_state(
     unprocessed: &[u64],
     committed: &[u64],
     index: &[u64],
-) {
+) -> io::Result<()> {
     if form != 0 {
-        show_line(s, pending, unprocessed, committed, index);
-        return;
+        return show_line(rt, s, pending, unprocessed, committed, index);
     }
-    end_line();
-    show_replay(image, s, pending, unprocessed, committed, index);
+    end_line(rt)?;
+    show_replay(rt, image, s, pending, unprocessed, committed, index)
 }
 
 fn show(
+    rt: &impl Print,
     form: u64,
     image: &[u8],
     r: Recovered,
@@ -283,15 +295,16 @@ fn show(
     unprocessed: &[u64],
     committed: &[u64],
     index: &[u64],
-) {
+) -> io::Result<()> {
     let walked = r.walked;
     match walked {
         Walked::Refused(refusal, start) => {
-            show_refusal(refusal, start, pending, unprocessed, committed, index);
+            show_refusal(rt, refusal, start, pending, unprocessed, committed, index)
         }
         Walked::Stopped(stop, end, unread) => {
-            show_stop(stop, end, unread);
+            show_stop(rt, stop, end, unread)?;
             show_state(
+                rt,
                 form,
                 image,
                 r.replay,
@@ -299,7 +312,7 @@ fn show(
                 unprocessed,
                 committed,
                 index,
-            );
+            )
         }
     }
 }
@@ -307,13 +320,14 @@ fn show(
 // ---- The call
 
 fn ask(
+    rt: &impl Print,
     call: Call,
     image: &[u8],
     pending: &mut [u64],
     unprocessed: &mut [u64],
     committed: &mut [u64],
     index: &mut [u64],
-) {
+) -> io::Result<()> {
     let r = recovery::recover(
         call.k,
         image,
@@ -325,7 +339,16 @@ fn ask(
         committed,
         index,
     );
-    show(call.form, image, r, pending, unprocessed, committed, index);
+    show(
+        rt,
+        call.form,
+        image,
+        r,
+        pending,
+        unprocessed,
+        committed,
+        index,
+    )
 }
 
 // The words lent, of those that are there.
@@ -341,56 +364,60 @@ fn within(n: u64, t: &[u64]) -> usize
 
 // Lends the tables, each as long as the case says.
 fn lend(
+    rt: &impl Print,
     call: Call,
     image: &[u8],
     pending: &mut [u64],
     unprocessed: &mut [u64],
     committed: &mut [u64],
     index: &mut [u64],
-) {
+) -> io::Result<()> {
     let p = within(call.pending, pending);
     let u = within(call.unprocessed, unprocessed);
     let c = within(call.committed, committed);
     let i = within(call.index, index);
     ask(
+        rt,
         call,
         image,
         &mut pending[..p],
         &mut unprocessed[..u],
         &mut committed[..c],
         &mut index[..i],
-    );
+    )
 }
 
-fn run(call: Call, image: &[u8]) {
+fn run(rt: &impl Print, call: Call, image: &[u8]) -> io::Result<()> {
     let mut pending = [7u64; 512];
     let mut unprocessed = [7u64; 512];
     let mut committed = [7u64; 512];
     let mut index = [7u64; 512];
     lend(
+        rt,
         call,
         image,
         &mut pending,
         &mut unprocessed,
         &mut committed,
         &mut index,
-    );
+    )
 }
 
 // The log cut at every byte.
-fn run_cuts(call: Call, image: &[u8]) {
+fn run_cuts(rt: &impl Print, call: Call, image: &[u8]) -> io::Result<()> {
     let mut c = call;
     let mut used = 0;
     while used <= call.used {
-        io::print_decimal(STDOUT_FILENO, used);
-        blank();
+        print!(rt; "{used}")?;
+        blank(rt)?;
         c.used = used;
-        run(c, image);
+        run(rt, c, image)?;
         if used == call.used {
-            return;
+            return Ok(());
         }
         used += 1;
     }
+    Ok(())
 }
 
 // ---- The cases
@@ -410,34 +437,35 @@ fn call_at(s: &[u8], at: usize) -> Call {
 }
 
 // The case at `at`, and the place behind it.
-fn show_case(s: &[u8], at: usize) -> usize {
+fn show_case(rt: &impl Print, s: &[u8], at: usize) -> io::Result<usize> {
     let call = call_at(s, at);
     let name = plus(at, 72);
     let image = behind(s, name);
-    io::write_all(STDOUT_FILENO, bytes_at(s, name));
-    end_line();
+    rt.write_all(bytes_at(s, name))?;
+    end_line(rt)?;
     if call.form == 1 {
-        run_cuts(call, bytes_at(s, image));
+        run_cuts(rt, call, bytes_at(s, image))?;
     } else {
-        run(call, bytes_at(s, image));
+        run(rt, call, bytes_at(s, image))?;
     }
-    behind(s, image)
+    Ok(behind(s, image))
 }
 
-fn show_all(s: &[u8]) {
+fn show_all(rt: &impl Print, s: &[u8]) -> io::Result<()> {
     let count = number_at(s, 0);
     let mut at = 8;
     let mut i = 0;
     while i < count {
         i += 1;
-        io::print_decimal(STDOUT_FILENO, i);
-        blank();
-        at = show_case(s, at);
+        print!(rt; "{i}")?;
+        blank(rt)?;
+        at = show_case(rt, s, at)?;
     }
+    Ok(())
 }
 
-fn main() {
+fn main(rt: HostRuntime) -> io::Result<()> {
     let mut input = [0u8; 262144];
-    let n = io::read_full(STDIN_FILENO, &mut input);
-    show_all(&input[..n]);
+    let n = case_lines::read_full(&mut rt.stdin(), &mut input)?;
+    show_all(&rt, &input[..n])
 }

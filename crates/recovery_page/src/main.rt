@@ -4,7 +4,7 @@
 // `stdin` and `stdout` were made by tools/model/page_cases.py, a model written from the documents.
 #![tactic(auto)]
 
-use libc::{STDIN_FILENO, STDOUT_FILENO};
+use std::io;
 
 // One byte more than the page takes, so that a longer input is seen to be longer.
 const INPUT: usize = 65537;
@@ -12,10 +12,10 @@ const INPUT: usize = 65537;
 // The longest text that the call's contract allows: 4,237 lines of 73 bytes.
 const TEXT: usize = 309301;
 
-fn main() {
+fn main(rt: HostRuntime) -> io::Result<()> {
     let mut input = [0u8; INPUT];
-    let n = io::read_full(STDIN_FILENO, &mut input);
+    let n = case_lines::read_full(&mut rt.stdin(), &mut input)?;
     let mut text = [0u8; TEXT];
     let end = page::input_page(&input[..n], &mut text);
-    io::write_all(STDOUT_FILENO, &text[..end]);
+    rt.write_all(&text[..end])
 }

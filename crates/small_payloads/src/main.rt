@@ -2,13 +2,13 @@
 // hexadecimal, one a line, by length and then by unsigned byte order. Standard input is not read.
 #![tactic(auto)]
 
-use libc::STDOUT_FILENO;
+use std::io;
 
 // The length of the whole text.
 const TEXT: usize = 11066;
 
-fn main() {
+fn main(rt: HostRuntime) -> io::Result<()> {
     let mut text = [0u8; TEXT];
     let end = payloads::list_small(&mut text);
-    io::write_all(STDOUT_FILENO, &text[..end]);
+    rt.write_all(&text[..end])
 }

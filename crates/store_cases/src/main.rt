@@ -23,9 +23,9 @@ use cleanup::Cleaned;
 use exists::Answer;
 use index::StoreSummary;
 use insert::Inserted;
-use libc::{STDIN_FILENO, STDOUT_FILENO};
 use lookup::Looked;
 use state::Span;
+use std::io;
 use store::BlockStore;
 use types::{BlockReference, TransactionLocator};
 use wal::WalWriter;
@@ -65,82 +65,83 @@ fn times_eight(n: usize) -> usize {
 
 // ---- Writing
 
-fn text(bytes: &[u8]) {
-    io::write_all(STDOUT_FILENO, bytes);
+fn text(rt: &impl Print, bytes: &[u8]) -> io::Result<()> {
+    rt.write_all(bytes)
 }
 
-fn show_table(t: &[u64]) {
-    hex(!feed_table(0xffff_ffff, t) as u64, 8);
+fn show_table(rt: &impl Print, t: &[u64]) -> io::Result<()> {
+    hex(rt, !feed_table(0xffff_ffff, t) as u64, 8)
 }
 
 // The highest round, the last seen rounds and the own reference.
-fn show_summary(s: StoreSummary) {
+fn show_summary(rt: &impl Print, s: StoreSummary) -> io::Result<()> {
     let seen = s.last_seen_by_authority;
     let last = s.last_own_block;
     let one = feed_word(0xffff_ffff, s.highest_round);
     let two = feed_table(one, &seen);
     let three = feed_reference(two, last.there, last.reference);
-    hex(!three as u64, 8);
+    hex(rt, !three as u64, 8)
 }
 
 // Used, rows and loads, and checksums of the image, the index and the summary.
-fn show_setting(t: Setting, image: &[u8], index: &[u64]) {
+fn show_setting(rt: &impl Print, t: Setting, image: &[u8], index: &[u64]) -> io::Result<()> {
     let store = t.store;
-    number(t.used);
-    number(store.rows as u64);
-    number(store.loads);
-    hex(checksum::hash(image) as u64, 8);
-    show_table(index);
-    show_summary(store.summary);
-    end_line();
+    number(rt, t.used)?;
+    number(rt, store.rows as u64)?;
+    number(rt, store.loads)?;
+    hex(rt, checksum::hash(image) as u64, 8)?;
+    show_table(rt, index)?;
+    show_summary(rt, store.summary)?;
+    end_line(rt)
 }
 
 // Round, authority, first word of the digest, and the place and the length of the block's bytes.
-fn show_row(t: &[u64], at: usize) {
-    io::print_decimal(STDOUT_FILENO, word_at(t, at));
-    number(word_at(t, plus(at, 1)));
-    hex(word_at(t, plus(at, 2)), 16);
-    number(word_at(t, plus(at, 6)));
-    number(word_at(t, plus(at, 7)));
-    end_line();
+fn show_row(rt: &impl Print, t: &[u64], at: usize) -> io::Result<()> {
+    print!(rt; "{}", word_at(t, at))?;
+    number(rt, word_at(t, plus(at, 1)))?;
+    hex(rt, word_at(t, plus(at, 2)), 16)?;
+    number(rt, word_at(t, plus(at, 6)))?;
+    number(rt, word_at(t, plus(at, 7)))?;
+    end_line(rt)
 }
 
 // Number, rows, loads and a checksum of the answer table; then the rows.
-fn show_looked(r: Looked, out: &[u64]) {
+fn show_looked(rt: &impl Print, r: Looked, out: &[u64]) -> io::Result<()> {
     let s = r.store;
-    number(r.number as u64);
-    number(r.rows as u64);
-    number(s.loads);
-    show_table(out);
-    end_line();
+    number(rt, r.number as u64)?;
+    number(rt, r.rows as u64)?;
+    number(rt, s.loads)?;
+    show_table(rt, out)?;
+    end_line(rt)?;
     let mut at = 0;
     let mut i = 0;
     while i < r.rows {
-        show_row(out, at);
+        show_row(rt, out, at)?;
         at = plus(at, 8);
         i += 1;
     }
+    Ok(())
 }
 
-fn show_answer(a: Answer) {
+fn show_answer(rt: &impl Print, a: Answer) -> io::Result<()> {
     match a {
-        Answer::Yes => text(b" YES"),
-        Answer::No => text(b" NO"),
-        Answer::Refused(n) => number(n as u64),
+        Answer::Yes => text(rt, b" YES")?,
+        Answer::No => text(rt, b" NO")?,
+        Answer::Refused(n) => number(rt, n as u64)?,
     }
-    end_line();
+    end_line(rt)
 }
 
-fn show_span(image: &[u8], s: Span) {
+fn show_span(rt: &impl Print, image: &[u8], s: Span) -> io::Result<()> {
     match s {
-        Span::Nothing => show_place(image, false, 0, 0),
-        Span::At(at, len) => show_place(image, true, at, len),
+        Span::Nothing => show_place(rt, image, false, 0, 0),
+        Span::At(at, len) => show_place(rt, image, true, at, len),
     }
 }
 
 // ---- Calls that change the store
 
-fn do_open(t: Setting, image: &[u8], index: &mut [u64]) -> Setting {
+fn do_open(rt: &impl Print, t: Setting, image: &[u8], index: &mut [u64]) -> io::Result<Setting> {
     let mut pending = [7u64; 512];
     let mut unprocessed = [7u64; 512];
     let mut committed = [7u64; 512];
@@ -159,10 +160,10 @@ fn do_open(t: Setting, image: &[u8], index: &mut [u64]) -> Setting {
     );
     let opened = BlockStore::open(size, own, r);
     let now = with_store(t, opened.store);
-    text(b"open");
-    number(opened.number as u64);
-    show_setting(now, image, index);
-    now
+    text(rt, b"open")?;
+    number(rt, opened.number as u64)?;
+    show_setting(rt, now, image, index)?;
+    Ok(now)
 }
 
 fn insert(t: Setting, tag: u64, payload: &[u8], image: &mut [u8], index: &mut [u64]) -> Inserted {
@@ -176,7 +177,14 @@ fn insert(t: Setting, tag: u64, payload: &[u8], image: &mut [u8], index: &mut [u
     insert::insert_block(writer, image, t.store, index, payload)
 }
 
-fn do_insert(t: Setting, tag: u64, payload: &[u8], image: &mut [u8], index: &mut [u64]) -> Setting {
+fn do_insert(
+    rt: &impl Print,
+    t: Setting,
+    tag: u64,
+    payload: &[u8],
+    image: &mut [u8],
+    index: &mut [u64],
+) -> io::Result<Setting> {
     let r = insert(t, tag, payload, image, index);
     let writer = r.writer;
     let position = r.position;
@@ -186,51 +194,86 @@ fn do_insert(t: Setting, tag: u64, payload: &[u8], image: &mut [u8], index: &mut
         used: writer.used,
         store,
     };
-    text(b"insert");
-    number(r.number as u64);
-    number(position.0);
-    show_setting(now, image, index);
-    now
+    text(rt, b"insert")?;
+    number(rt, r.number as u64)?;
+    number(rt, position.0)?;
+    show_setting(rt, now, image, index)?;
+    Ok(now)
 }
 
-fn do_cleanup(t: Setting, round: u64, image: &[u8], index: &mut [u64]) {
+fn do_cleanup(
+    rt: &impl Print,
+    t: Setting,
+    round: u64,
+    image: &[u8],
+    index: &mut [u64],
+) -> io::Result<()> {
     let r = cleanup::cleanup(t.k, image, t.used, t.store, index, round);
-    text(b"cleanup");
+    text(rt, b"cleanup")?;
     match r {
         Cleaned::Unloaded(n) => {
-            text(b" UNLOADED");
-            number(n);
+            text(rt, b" UNLOADED")?;
+            number(rt, n)?;
         }
-        Cleaned::Refused(n) => number(n as u64),
+        Cleaned::Refused(n) => number(rt, n as u64)?,
     }
-    show_setting(t, image, index);
+    show_setting(rt, t, image, index)
 }
 
 // ---- Questions
 
-fn do_block_exists(t: Setting, reference: BlockReference, image: &[u8], index: &[u64]) {
-    text(b"block_exists");
-    show_answer(exists::block_exists(t.k, image, t.used, t.store, index, reference));
+fn do_block_exists(
+    rt: &impl Print,
+    t: Setting,
+    reference: BlockReference,
+    image: &[u8],
+    index: &[u64],
+) -> io::Result<()> {
+    text(rt, b"block_exists")?;
+    show_answer(
+        rt,
+        exists::block_exists(t.k, image, t.used, t.store, index, reference),
+    )
 }
 
-fn do_exists_at(t: Setting, authority: u64, round: u64, image: &[u8], index: &[u64]) {
-    text(b"block_exists_at_authority_round");
-    show_answer(exists::block_exists_at_authority_round(
-        t.k, image, t.used, t.store, index, authority, round,
-    ));
+fn do_exists_at(
+    rt: &impl Print,
+    t: Setting,
+    authority: u64,
+    round: u64,
+    image: &[u8],
+    index: &[u64],
+) -> io::Result<()> {
+    text(rt, b"block_exists_at_authority_round")?;
+    show_answer(
+        rt,
+        exists::block_exists_at_authority_round(
+            t.k, image, t.used, t.store, index, authority, round,
+        ),
+    )
 }
 
-fn do_all_exist(t: Setting, authorities: &[u64], round: u64, image: &[u8], index: &[u64]) {
-    text(b"all_blocks_exists_at_authority_round");
-    show_answer(exists::all_blocks_exists_at_authority_round(
-        t.k,
-        image,
-        t.used,
-        t.store,
-        index,
-        authorities,
-        round,
-    ));
+fn do_all_exist(
+    rt: &impl Print,
+    t: Setting,
+    authorities: &[u64],
+    round: u64,
+    image: &[u8],
+    index: &[u64],
+) -> io::Result<()> {
+    text(rt, b"all_blocks_exists_at_authority_round")?;
+    show_answer(
+        rt,
+        exists::all_blocks_exists_at_authority_round(
+            t.k,
+            image,
+            t.used,
+            t.store,
+            index,
+            authorities,
+            round,
+        ),
+    )
 }
 
 // ---- Lookups
@@ -289,27 +332,24 @@ fn look(
     )
 }
 
-fn show_kind(kind: u64) {
+fn show_kind(rt: &impl Print, kind: u64) -> io::Result<()> {
     if kind == 4 {
-        text(b"get_block");
-        return;
+        return text(rt, b"get_block");
     }
     if kind == 5 {
-        text(b"get_blocks_by_round");
-        return;
+        return text(rt, b"get_blocks_by_round");
     }
     if kind == 6 {
-        text(b"get_blocks_at_authority_round");
-        return;
+        return text(rt, b"get_blocks_at_authority_round");
     }
     if kind == 7 {
-        text(b"get_own_blocks");
-        return;
+        return text(rt, b"get_own_blocks");
     }
-    text(b"get_others_blocks");
+    text(rt, b"get_others_blocks")
 }
 
 fn do_look(
+    rt: &impl Print,
     t: Setting,
     kind: u64,
     s: &[u8],
@@ -317,15 +357,22 @@ fn do_look(
     image: &[u8],
     index: &[u64],
     out: &mut [u64],
-) -> Setting {
+) -> io::Result<Setting> {
     let r = look(t, kind, s, at, image, index, out);
     let now = with_store(t, r.store);
-    show_kind(kind);
-    show_looked(r, out);
-    now
+    show_kind(rt, kind)?;
+    show_looked(rt, r, out)?;
+    Ok(now)
 }
 
-fn do_transaction(t: Setting, s: &[u8], at: usize, image: &[u8], index: &[u64]) -> Setting {
+fn do_transaction(
+    rt: &impl Print,
+    t: Setting,
+    s: &[u8],
+    at: usize,
+    image: &[u8],
+    index: &[u64],
+) -> io::Result<Setting> {
     let locator = TransactionLocator {
         block: reference_at(s, at),
         offset: number_at(s, plus(at, 56)),
@@ -333,31 +380,32 @@ fn do_transaction(t: Setting, s: &[u8], at: usize, image: &[u8], index: &[u64]) 
     let r = transaction::get_transaction(t.k, image, t.used, t.store, index, locator);
     let share = r.share;
     let now = with_store(t, r.store);
-    text(b"get_transaction");
-    number(r.number as u64);
-    show_span(image, share);
-    number(loads_of(now));
-    end_line();
-    now
+    text(rt, b"get_transaction")?;
+    number(rt, r.number as u64)?;
+    show_span(rt, image, share)?;
+    number(rt, loads_of(now))?;
+    end_line(rt)?;
+    Ok(now)
 }
 
 fn do_linked(
+    rt: &impl Print,
     t: Setting,
     later: &[u8],
     earlier: BlockReference,
     image: &[u8],
     index: &[u64],
     work: &mut [u64],
-) -> Setting {
+) -> io::Result<Setting> {
     let r = linked::linked(t.k, image, t.used, t.store, index, later, earlier, work);
     let now = with_store(t, r.store);
-    text(b"linked");
-    number(r.number as u64);
-    number(r.linked as u64);
-    number(loads_of(now));
-    show_table(work);
-    end_line();
-    now
+    text(rt, b"linked")?;
+    number(rt, r.number as u64)?;
+    number(rt, r.linked as u64)?;
+    number(rt, loads_of(now))?;
+    show_table(rt, work)?;
+    end_line(rt)?;
+    Ok(now)
 }
 
 // ---- The cases
@@ -395,64 +443,97 @@ fn load_bytes(bytes: &[u8], image: &mut [u8]) {
 }
 
 // A call that changes index or image.
-fn change(t: Setting, kind: u64, s: &[u8], at: usize, image: &mut [u8], index: &mut [u64]) -> Step {
+fn change(
+    rt: &impl Print,
+    t: Setting,
+    kind: u64,
+    s: &[u8],
+    at: usize,
+    image: &mut [u8],
+    index: &mut [u64],
+) -> io::Result<Step> {
     if kind == 1 {
-        return Step {
-            setting: do_open(t, image, index),
+        return Ok(Step {
+            setting: do_open(rt, t, image, index)?,
             at,
-        };
+        });
     }
     if kind == 2 {
         let payload = plus(at, 8);
-        return Step {
-            setting: do_insert(t, number_at(s, at), bytes_at(s, payload), image, index),
+        return Ok(Step {
+            setting: do_insert(rt, t, number_at(s, at), bytes_at(s, payload), image, index)?,
             at: behind(s, payload),
-        };
+        });
     }
-    do_cleanup(t, number_at(s, at), image, index);
-    Step {
+    do_cleanup(rt, t, number_at(s, at), image, index)?;
+    Ok(Step {
         setting: t,
         at: plus(at, 8),
-    }
+    })
 }
 
 // A question that reads no block.
-fn ask(t: Setting, kind: u64, s: &[u8], at: usize, image: &[u8], index: &[u64]) -> Step {
+fn ask(
+    rt: &impl Print,
+    t: Setting,
+    kind: u64,
+    s: &[u8],
+    at: usize,
+    image: &[u8],
+    index: &[u64],
+) -> io::Result<Step> {
     if kind == 11 {
-        do_block_exists(t, reference_at(s, at), image, index);
-        return Step {
+        do_block_exists(rt, t, reference_at(s, at), image, index)?;
+        return Ok(Step {
             setting: t,
             at: plus(at, 56),
-        };
+        });
     }
     if kind == 12 {
-        do_exists_at(t, number_at(s, at), number_at(s, plus(at, 8)), image, index);
-        return Step {
+        do_exists_at(
+            rt,
+            t,
+            number_at(s, at),
+            number_at(s, plus(at, 8)),
+            image,
+            index,
+        )?;
+        return Ok(Step {
             setting: t,
             at: plus(at, 16),
-        };
+        });
     }
     let list = plus(at, 8);
     let mut authorities = [0u64; 8];
     load_words(s, list, &mut authorities);
     ask_all(
+        rt,
         t,
         number_at(s, at),
         number_at(s, list),
         &authorities,
         image,
         index,
-    );
-    Step {
+    )?;
+    Ok(Step {
         setting: t,
         at: behind_words(s, list),
-    }
+    })
 }
 
-fn ask_all(t: Setting, round: u64, n: u64, authorities: &[u64], image: &[u8], index: &[u64]) {
+fn ask_all(
+    rt: &impl Print,
+    t: Setting,
+    round: u64,
+    n: u64,
+    authorities: &[u64],
+    image: &[u8],
+    index: &[u64],
+) -> io::Result<()> {
     if n as usize <= authorities.len() {
-        do_all_exist(t, &authorities[..n as usize], round, image, index);
+        do_all_exist(rt, t, &authorities[..n as usize], round, image, index)?;
     }
+    Ok(())
 }
 
 fn width(kind: u64) -> usize {
@@ -470,6 +551,7 @@ fn width(kind: u64) -> usize {
 
 // A lookup that reads blocks.
 fn find(
+    rt: &impl Print,
     t: Setting,
     kind: u64,
     s: &[u8],
@@ -478,34 +560,36 @@ fn find(
     index: &[u64],
     out: &mut [u64],
     work: &mut [u64],
-) -> Step {
+) -> io::Result<Step> {
     if kind == 9 {
-        return Step {
-            setting: do_transaction(t, s, at, image, index),
+        return Ok(Step {
+            setting: do_transaction(rt, t, s, at, image, index)?,
             at: plus(at, 64),
-        };
+        });
     }
     if kind == 10 {
         let earlier = behind(s, at);
-        return Step {
+        return Ok(Step {
             setting: do_linked(
+                rt,
                 t,
                 bytes_at(s, at),
                 reference_at(s, earlier),
                 image,
                 index,
                 work,
-            ),
+            )?,
             at: plus(earlier, 56),
-        };
+        });
     }
-    Step {
-        setting: do_look(t, kind, s, at, image, index, out),
+    Ok(Step {
+        setting: do_look(rt, t, kind, s, at, image, index, out)?,
         at: plus(at, width(kind)),
-    }
+    })
 }
 
 fn call(
+    rt: &impl Print,
     t: Setting,
     s: &[u8],
     at: usize,
@@ -513,20 +597,21 @@ fn call(
     index: &mut [u64],
     out: &mut [u64],
     work: &mut [u64],
-) -> Step {
+) -> io::Result<Step> {
     let kind = number_at(s, at);
     let arguments = plus(at, 8);
     if kind < 4 {
-        return change(t, kind, s, arguments, image, index);
+        return change(rt, t, kind, s, arguments, image, index);
     }
     if kind < 11 {
-        return find(t, kind, s, arguments, image, index, out, work);
+        return find(rt, t, kind, s, arguments, image, index, out, work);
     }
-    ask(t, kind, s, arguments, image, index)
+    ask(rt, t, kind, s, arguments, image, index)
 }
 
 // The calls whose number stands at `at`; answers the place behind them.
 fn run_calls(
+    rt: &impl Print,
     t: Setting,
     s: &[u8],
     at: usize,
@@ -534,7 +619,7 @@ fn run_calls(
     index: &mut [u64],
     out: &mut [u64],
     work: &mut [u64],
-) -> usize {
+) -> io::Result<usize> {
     let count = number_at(s, at);
     let mut step = Step {
         setting: t,
@@ -542,10 +627,10 @@ fn run_calls(
     };
     let mut i = 0;
     while i < count {
-        step = call(step.setting, s, step.at, image, index, out, work);
+        step = call(rt, step.setting, s, step.at, image, index, out, work)?;
         i += 1;
     }
-    step.at
+    Ok(step.at)
 }
 
 fn within(n: u64, len: usize) -> usize
@@ -570,6 +655,7 @@ fn setting_at(s: &[u8], at: usize) -> Setting {
 
 // Lends the memory, each part as long as the case says: the words at `at`, the image at `from`.
 fn lend(
+    rt: &impl Print,
     s: &[u8],
     at: usize,
     from: usize,
@@ -577,12 +663,13 @@ fn lend(
     index: &mut [u64],
     out: &mut [u64],
     work: &mut [u64],
-) -> usize {
+) -> io::Result<usize> {
     let i = within(number_at(s, from), image.len());
     let x = within(number_at(s, plus(at, 48)), index.len());
     let o = within(number_at(s, plus(at, 56)), out.len());
     let w = within(number_at(s, plus(at, 64)), work.len());
     run_calls(
+        rt,
         setting_at(s, at),
         s,
         behind_words(s, behind(s, from)),
@@ -594,36 +681,37 @@ fn lend(
 }
 
 // The case at `at`, and the place behind it.
-fn show_case(s: &[u8], at: usize) -> usize {
+fn show_case(rt: &impl Print, s: &[u8], at: usize) -> io::Result<usize> {
     let mut image = [0u8; 16384];
     let mut index = [7u64; 512];
     let mut out = [7u64; 512];
     let mut work = [7u64; 512];
     let numbers = behind(s, at);
     let from = plus(numbers, 72);
-    text(bytes_at(s, at));
-    end_line();
+    text(rt, bytes_at(s, at))?;
+    end_line(rt)?;
     load_bytes(bytes_at(s, from), &mut image);
     load_words(s, behind(s, from), &mut index);
     lend(
-        s, numbers, from, &mut image, &mut index, &mut out, &mut work,
+        rt, s, numbers, from, &mut image, &mut index, &mut out, &mut work,
     )
 }
 
-fn show_all(s: &[u8]) {
+fn show_all(rt: &impl Print, s: &[u8]) -> io::Result<()> {
     let count = number_at(s, 0);
     let mut at = 8;
     let mut i = 0;
     while i < count {
         i += 1;
-        io::print_decimal(STDOUT_FILENO, i);
-        blank();
-        at = show_case(s, at);
+        print!(rt; "{i}")?;
+        blank(rt)?;
+        at = show_case(rt, s, at)?;
     }
+    Ok(())
 }
 
-fn main() {
+fn main(rt: HostRuntime) -> io::Result<()> {
     let mut input = [0u8; 524288];
-    let n = io::read_full(STDIN_FILENO, &mut input);
-    show_all(&input[..n]);
+    let n = case_lines::read_full(&mut rt.stdin(), &mut input)?;
+    show_all(&rt, &input[..n])
 }

@@ -6,70 +6,77 @@
 ghost use Rattle.std.specs.Prelude.{◌≤◌, length};
 
 use case_lines::{end_line, number};
-use libc::STDOUT_FILENO;
+use std::io;
 use wal::{Appended, Found, Stop, WalPosition, WalWriter, Walked};
 
-fn refused(n: u8) {
-    io::write_all(STDOUT_FILENO, b" REFUSED");
-    number(n as u64);
+fn refused(rt: &impl Print, n: u8) -> io::Result<()> {
+    print!(rt; " REFUSED")?;
+    number(rt, n as u64)
 }
 
-fn show_appended(a: Appended) {
-    io::write_all(STDOUT_FILENO, b"append");
+fn show_appended(rt: &impl Print, a: Appended) -> io::Result<()> {
+    print!(rt; "append")?;
     match a {
         Appended::At(position, writer) => {
-            number(position.0);
-            number(writer.used);
+            number(rt, position.0)?;
+            number(rt, writer.used)?;
         }
-        Appended::Refused(n) => refused(n),
+        Appended::Refused(n) => refused(rt, n)?,
     }
-    end_line();
+    end_line(rt)
 }
 
-fn show_found(f: Found) {
-    io::write_all(STDOUT_FILENO, b"read");
+fn show_found(rt: &impl Print, f: Found) -> io::Result<()> {
+    print!(rt; "read")?;
     match f {
         Found::Entry(e) => {
-            number(e.position.0);
-            number(e.tag as u64);
-            number(e.len);
-            number(e.checksum as u64);
+            number(rt, e.position.0)?;
+            number(rt, e.tag as u64)?;
+            number(rt, e.len)?;
+            number(rt, e.checksum as u64)?;
         }
-        Found::Refused(n) => refused(n),
+        Found::Refused(n) => refused(rt, n)?,
     }
-    end_line();
+    end_line(rt)
 }
 
-fn word(stop: Stop) {
+fn word(rt: &impl Print, stop: Stop) -> io::Result<()> {
     match stop {
-        Stop::End => io::write_all(STDOUT_FILENO, b" END"),
-        Stop::Zeros => io::write_all(STDOUT_FILENO, b" ZEROS"),
-        Stop::Torn => io::write_all(STDOUT_FILENO, b" TORN"),
-    };
+        Stop::End => print!(rt; " END"),
+        Stop::Zeros => print!(rt; " ZEROS"),
+        Stop::Torn => print!(rt; " TORN"),
+    }
 }
 
-fn show_walked(w: Walked) {
-    io::write_all(STDOUT_FILENO, b"walk");
+fn show_walked(rt: &impl Print, w: Walked) -> io::Result<()> {
+    print!(rt; "walk")?;
     match w {
         Walked::Stopped(stop, end, unread) => {
-            word(stop);
-            number(end.0);
-            number(unread);
+            word(rt, stop)?;
+            number(rt, end.0)?;
+            number(rt, unread)?;
         }
         Walked::Refused(n, start) => {
-            refused(n);
-            number(start.0);
+            refused(rt, n)?;
+            number(rt, start.0)?;
         }
     }
-    end_line();
+    end_line(rt)
 }
 
 // The three calls on one image.
-fn show_calls(k: u64, image: &mut [u8], used: u64, payload: &[u8], position: u64) {
-    show_found(wal::read(k, image, used, WalPosition(position)));
-    show_walked(wal::walk(k, image, used));
+fn show_calls(
+    rt: &impl Print,
+    k: u64,
+    image: &mut [u8],
+    used: u64,
+    payload: &[u8],
+    position: u64,
+) -> io::Result<()> {
+    show_found(rt, wal::read(k, image, used, WalPosition(position)))?;
+    show_walked(rt, wal::walk(k, image, used))?;
     let writer = WalWriter { exponent: k, used };
-    show_appended(wal::append(writer, image, 2, payload));
+    show_appended(rt, wal::append(writer, image, 2, payload))
 }
 
 fn put(writer: WalWriter, image: &mut [u8], tag: u32, payload: &[u8]) -> WalWriter {
@@ -101,96 +108,96 @@ fn second_log(image: &mut [u8]) -> u64 {
 }
 
 // Rows 1 to 4.
-fn append_rows() {
+fn append_rows(rt: &impl Print) -> io::Result<()> {
     let mut small = [0u8; 64];
-    show_calls(5, &mut small, 0, b"", 0);
-    show_calls(29, &mut small, 0, b"", 0);
-    show_calls(6, &mut small, 65, b"", 0);
+    show_calls(rt, 5, &mut small, 0, b"", 0)?;
+    show_calls(rt, 29, &mut small, 0, b"", 0)?;
+    show_calls(rt, 6, &mut small, 65, b"", 0)?;
     let long = [b'x'; 49];
-    show_calls(6, &mut small, 0, &long, 0);
+    show_calls(rt, 6, &mut small, 0, &long, 0)?;
     let mut short = [0u8; 88];
     let used = first_log(&mut short);
-    number(used);
-    end_line();
-    show_calls(6, &mut short, 41, b"123456789", 0);
+    number(rt, used)?;
+    end_line(rt)?;
+    show_calls(rt, 6, &mut short, 41, b"123456789", 0)?;
     let mut enough = [0u8; 89];
-    show_calls(6, &mut enough, 41, b"123456789", 0);
+    show_calls(rt, 6, &mut enough, 41, b"123456789", 0)
 }
 
 // Rows 5 to 7, by a header in which one field is set.
-fn header_rows() {
+fn header_rows(rt: &impl Print) -> io::Result<()> {
     let mut image = [0u8; 64];
     image[0] = 1;
-    show_calls(6, &mut image, 16, b"", 0);
+    show_calls(rt, 6, &mut image, 16, b"", 0)?;
     image[8] = 15;
-    show_calls(6, &mut image, 16, b"", 0);
+    show_calls(rt, 6, &mut image, 16, b"", 0)?;
     image[8] = 16;
-    show_calls(6, &mut image, 16, b"", 0);
+    show_calls(rt, 6, &mut image, 16, b"", 0)?;
     image[8] = 65;
-    show_calls(6, &mut image, 16, b"", 0);
+    show_calls(rt, 6, &mut image, 16, b"", 0)?;
     image[0] = 0;
     image[8] = 16;
-    show_calls(6, &mut image, 16, b"", 0);
+    show_calls(rt, 6, &mut image, 16, b"", 0)?;
     image[4] = 1;
-    show_calls(6, &mut image, 16, b"", 0);
+    show_calls(rt, 6, &mut image, 16, b"", 0)
 }
 
 // Rows 16 and 17, and what is there, in the first log.
-fn read_rows(image: &[u8], used: u64) {
-    show_found(wal::read(6, image, used, WalPosition(0)));
-    show_found(wal::read(6, image, used, WalPosition(25)));
-    show_found(wal::read(6, image, used, WalPosition(41)));
-    show_found(wal::read(6, image, used, WalPosition(49)));
-    show_found(wal::read(6, image, used, WalPosition(64)));
-    show_found(wal::read(6, image, used, WalPosition(80)));
-    show_found(wal::read(6, image, used, WalPosition(88)));
-    show_found(wal::read(6, image, used, WalPosition(89)));
-    show_found(wal::read(6, image, used, WalPosition::MAX));
+fn read_rows(rt: &impl Print, image: &[u8], used: u64) -> io::Result<()> {
+    show_found(rt, wal::read(6, image, used, WalPosition(0)))?;
+    show_found(rt, wal::read(6, image, used, WalPosition(25)))?;
+    show_found(rt, wal::read(6, image, used, WalPosition(41)))?;
+    show_found(rt, wal::read(6, image, used, WalPosition(49)))?;
+    show_found(rt, wal::read(6, image, used, WalPosition(64)))?;
+    show_found(rt, wal::read(6, image, used, WalPosition(80)))?;
+    show_found(rt, wal::read(6, image, used, WalPosition(88)))?;
+    show_found(rt, wal::read(6, image, used, WalPosition(89)))?;
+    show_found(rt, wal::read(6, image, used, WalPosition::MAX))
 }
 
-fn reads() {
+fn reads(rt: &impl Print) -> io::Result<()> {
     let mut image = [0u8; 128];
     let used = first_log(&mut image);
-    read_rows(&image, used);
+    read_rows(rt, &image, used)
 }
 
-fn show_damaged(image: &[u8], used: u64, position: u64) {
-    show_found(wal::read(6, image, used, WalPosition(position)));
-    show_walked(wal::walk(6, image, used));
+fn show_damaged(rt: &impl Print, image: &[u8], used: u64, position: u64) -> io::Result<()> {
+    show_found(rt, wal::read(6, image, used, WalPosition(position)))?;
+    show_walked(rt, wal::walk(6, image, used))
 }
 
 // The first log with its first payload changed: the fifth byte, the first five, and the first four. Five may pass (crates/burst).
-fn damaged_payloads() {
+fn damaged_payloads(rt: &impl Print) -> io::Result<()> {
     let mut image = [0u8; 128];
     let used = first_log(&mut image);
     image[20] = 0x34;
-    show_damaged(&image, used, 0);
+    show_damaged(rt, &image, used, 0)?;
     image[16] = 0x70;
     image[17] = 0x34;
     image[18] = 0x42;
     image[19] = 0xef;
-    show_damaged(&image, used, 0);
+    show_damaged(rt, &image, used, 0)?;
     image[20] = b'5';
-    show_damaged(&image, used, 0);
+    show_damaged(rt, &image, used, 0)
 }
 
 // The same with what the checksum does not cover: a tag; a length of 0, and one past used; and the last header's length and checksum.
-fn damaged_headers() {
+fn damaged_headers(rt: &impl Print) -> io::Result<()> {
     let mut image = [0u8; 128];
     let used = first_log(&mut image);
     image[12] = 3;
-    show_damaged(&image, used, 0);
+    show_damaged(rt, &image, used, 0)?;
     image[33] = 0;
-    show_damaged(&image, used, 25);
+    show_damaged(rt, &image, used, 25)?;
     image[72] = 26;
-    show_damaged(&image, used, 64);
+    show_damaged(rt, &image, used, 64)?;
     image[72] = 0;
-    show_damaged(&image, used, 64);
+    show_damaged(rt, &image, used, 64)?;
     image[64] = 0;
     image[65] = 0;
     image[66] = 0;
     image[67] = 0;
-    show_damaged(&image, used, 64);
+    show_damaged(rt, &image, used, 64)
 }
 
 fn within(end: usize, text: &[u8]) -> usize
@@ -199,27 +206,28 @@ fn within(end: usize, text: &[u8]) -> usize
     if end < text.len() { end } else { text.len() }
 }
 
-fn show_listing(input: &[u8]) {
+fn show_listing(rt: &impl Print, input: &[u8]) -> io::Result<()> {
     let mut text = [0u8; 512];
     let end = listing::list(input, &mut text);
     let shown = within(end, &text);
-    io::write_all(STDOUT_FILENO, &text[..shown]);
+    rt.write_all(&text[..shown])
 }
 
-fn show_cut(c: usize, input: &[u8]) {
-    io::write_all(STDOUT_FILENO, b"cut");
-    number(c as u64);
-    end_line();
-    show_listing(input);
+fn show_cut(rt: &impl Print, c: usize, input: &[u8]) -> io::Result<()> {
+    print!(rt; "cut")?;
+    number(rt, c as u64)?;
+    end_line(rt)?;
+    show_listing(rt, input)
 }
 
 // The listing of each beginning of the input that holds the exponent.
-fn show_cuts(input: &[u8]) {
+fn show_cuts(rt: &impl Print, input: &[u8]) -> io::Result<()> {
     let mut end = 1;
     while end <= input.len() {
-        show_cut(end - 1, &input[..end]);
+        show_cut(rt, end - 1, &input[..end])?;
         end += 1;
     }
+    Ok(())
 }
 
 // An input of the listing: the exponent, and behind it the image.
@@ -238,35 +246,36 @@ fn fill_input(image: &[u8], input: &mut [u8]) {
     }
 }
 
-fn show_log(image: &[u8], used: u64) {
+fn show_log(rt: &impl Print, image: &[u8], used: u64) -> io::Result<()> {
     let mut input = [0u8; 129];
     fill_input(image, &mut input);
-    show_begun(&input, used);
+    show_begun(rt, &input, used)
 }
 
-fn show_begun(input: &[u8], used: u64) {
+fn show_begun(rt: &impl Print, input: &[u8], used: u64) -> io::Result<()> {
     let end = within(used as usize, input);
     if end < input.len() {
-        show_cuts(&input[..end + 1]);
+        show_cuts(rt, &input[..end + 1])?;
     }
+    Ok(())
 }
 
-fn cuts() {
+fn cuts(rt: &impl Print) -> io::Result<()> {
     let mut image = [0u8; 128];
     let first = first_log(&mut image);
-    show_log(&image, first);
+    show_log(rt, &image, first)?;
     let mut other = [0u8; 128];
     let second = second_log(&mut other);
-    show_log(&other, second);
+    show_log(rt, &other, second)
 }
 
-fn main() {
-    append_rows();
-    header_rows();
-    reads();
-    damaged_payloads();
-    damaged_headers();
-    cuts();
-    show_listing(b"");
-    show_listing(&[0u8; 65537]);
+fn main(rt: HostRuntime) -> io::Result<()> {
+    append_rows(&rt)?;
+    header_rows(&rt)?;
+    reads(&rt)?;
+    damaged_payloads(&rt)?;
+    damaged_headers(&rt)?;
+    cuts(&rt)?;
+    show_listing(&rt, b"")?;
+    show_listing(&rt, &[0u8; 65537])
 }

@@ -4,7 +4,7 @@
 
 ghost use Rattle.std.specs.Prelude.{◌≤◌, length};
 
-use libc::{STDIN_FILENO, STDOUT_FILENO};
+use std::io;
 
 // One byte more than the listing takes, so that a longer input is seen to be longer.
 const INPUT: usize = 65537;
@@ -19,11 +19,11 @@ fn within(end: usize, text: &[u8]) -> usize
     if end < text.len() { end } else { text.len() }
 }
 
-fn main() {
+fn main(rt: HostRuntime) -> io::Result<()> {
     let mut input = [0u8; INPUT];
-    let n = io::read_full(STDIN_FILENO, &mut input);
+    let n = case_lines::read_full(&mut rt.stdin(), &mut input)?;
     let mut text = [0u8; TEXT];
     let end = listing::list(&input[..n], &mut text);
     let shown = within(end, &text);
-    io::write_all(STDOUT_FILENO, &text[..shown]);
+    rt.write_all(&text[..shown])
 }

@@ -3,7 +3,7 @@ use Prim.Native.Nat.{◌^◌, ◌≤◌}
 use native.Mathlib.Omega.{arith}
 use lib.ListN.{length}
 use Rattle.cut.specs.PlainLog.{no_entries, log_bytes}
-use Rattle.cut.specs.Cut.{LogImage, after, final_log, Demand3}
+use Rattle.cut.specs.Cut.{LogImage, after, final_log, Demand3OfAll}
 use Rattle.cut.proofs.Calls.{calls}
 use Rattle.cut.proofs.Layouts.{LaidLog, laid_empty, laid_log, length_bytes}
 use Rattle.cut.proofs.Appending.{Holding, empty, run, same_seen}
@@ -11,7 +11,7 @@ use Rattle.cut.proofs.Reading.{reads_back}
 use Rattle.cut.proofs.Recovering.{recovers}
 use Rattle.cut.proofs.Resuming.{restores}
 
-pub demand_3 : Demand3
+pub demand_3 : Demand3OfAll
 unfolding log_bytes
 demand_3 k least most image appends tags =
     let st : LogImage = record { used = 0; image = image } in

@@ -76,12 +76,12 @@ laid_append (laid_next h rest) l = laid_next h (laid_append rest l)
 
 pub laid_left : {k e : ℕ} (es fs : List Entry) → Laid k e (es ++ fs) → Laid k e es
 laid_left [] fs l = laid_none
-laid_left (a ∷ es) fs (laid_next h rest) = laid_next h (laid_left es fs rest)
+laid_left {k = k} {e = e} (a ∷ es) fs (laid_next h rest) = laid_next h (laid_left {e = end_of a} es fs rest)
 
 pub laid_right : {k e : ℕ} (es fs : List Entry) → Laid k e (es ++ fs) → Laid k (last_end e es) fs
 unfolding last_end
 laid_right [] fs l = l
-laid_right (a ∷ es) fs (laid_next h rest) = laid_right es fs rest
+laid_right {k = k} {e = e} (a ∷ es) fs (laid_next h rest) = laid_right {e = end_of a} es fs rest
 
 -- ---- Their bytes
 

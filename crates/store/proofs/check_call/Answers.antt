@@ -1,7 +1,6 @@
 -- `store::check_call` meets its contract: the log's checks come first. Assumes nothing.
 use mathlib.Core.Path.{sym, ◌∙◌}
 use lib.ListN.{length}
-use borrow.Author.Rules.{rules}
 use Rattle.store.proofs.Checked.{log_refused, log_passed}
 use Rattle.store.proofs.check_call.Goals as goal
 

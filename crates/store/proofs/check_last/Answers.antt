@@ -2,7 +2,6 @@
 use Prim.Native.Nat.{◌+◌, ◌*◌}
 use lib.Dec.{ltb}
 use lib.ListN.{get_or}
-use borrow.Author.Rules.{rules}
 use Rattle.store.proofs.Authorities.{last_none, last_some}
 use Rattle.store.proofs.check_last.Goals as goal
 

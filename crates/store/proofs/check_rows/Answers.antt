@@ -1,11 +1,8 @@
 -- `store::check_rows` meets its contract: order and authorities of the rows from i on decide. Assumes nothing.
-use mathlib.Core.Path.{◌≡◌, sym, ◌∙◌}
-use Prim.Native.Nat.{◌-◌}
+use mathlib.Core.Path.{sym, ◌∙◌}
 use native.Mathlib.Omega.{arith}
-use borrow.Author.Rules.{rules}
 use Rattle.rows.specs.Rows.{rows_of, ascendingb}
-use Rattle.rows.proofs.Rows.{rows_from}
-use Rattle.rows.proofs.Testing.{Tested, tested_start, tested_next, tested_equal, tested_above, tested_done}
+use Rattle.rows.proofs.Testing.{tested_start, tested_next, tested_equal, tested_above, tested_done}
 use Rattle.store.specs.Store.{authorities_below}
 use Rattle.store.proofs.Authorities.{authorities_start, authorities_next, authorities_stop, authorities_last, authority_decides, order_decides, authorities_decide}
 use Rattle.store.proofs.check_rows.Goals as goal

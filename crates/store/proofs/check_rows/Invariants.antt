@@ -1,13 +1,10 @@
 -- `store::check_rows` meets its contract: order and authorities of the rows from i on decide. Assumes nothing.
-use mathlib.Core.Path.{◌≡◌, sym, ◌∙◌}
+use mathlib.Core.Path.{◌≡◌}
 use Prim.Native.Nat.{◌-◌}
-use native.Mathlib.Omega.{arith}
-use borrow.Author.Rules.{rules}
-use Rattle.rows.specs.Rows.{rows_of, ascendingb}
+use Rattle.rows.specs.Rows.{rows_of}
 use Rattle.rows.proofs.Rows.{rows_from}
-use Rattle.rows.proofs.Testing.{Tested, tested_start, tested_next, tested_equal, tested_above, tested_done}
+use Rattle.rows.proofs.Testing.{Tested}
 use Rattle.store.specs.Store.{authorities_below}
-use Rattle.store.proofs.Authorities.{authorities_start, authorities_next, authorities_stop, authorities_last, authority_decides, order_decides, authorities_decide}
 use Rattle.store.proofs.check_rows.Given as goal
 
 abbrev pub invariant-loop-i : goal.invariant-loop-i

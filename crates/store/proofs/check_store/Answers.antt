@@ -1,7 +1,5 @@
 -- `store::check_store` meets its contract: each test answers as the definition does. Assumes nothing.
 use mathlib.Core.Path.{sym, ◌∙◌}
-use borrow.Author.Rules.{rules}
-use borrow.Author.Tests.{not-true, not-false}
 use Rattle.store.proofs.Checked.{committee_refused, rows_refused, order_refused, order_passed}
 use Rattle.store.proofs.check_store.Goals as goal
 
@@ -21,10 +19,10 @@ pub returns-then-not-check_rows : goal.returns-then-not-check_rows
 returns-then-not-check_rows c =
     let a = c.args in
     let committee = sym c.check_committee-number.ensures ∙ c.if-number-ne0.false in
-    order_refused a.store a.index.now committee c.if-index-store.false (sym c.check_rows.ensures ∙ not-true c.check_rows.result c.if-not-check_rows.true)
+    order_refused a.store a.index.now committee c.if-index-store.false (sym c.check_rows.ensures ∙ c.if-not-check_rows.true)
 
 pub returns : goal.returns
 returns c =
     let a = c.args in
     let committee = sym c.check_committee-number.ensures ∙ c.if-number-ne0.false in
-    order_passed a.store a.index.now committee c.if-index-store.false (sym c.check_rows.ensures ∙ not-false c.check_rows.result c.if-not-check_rows.false)
+    order_passed a.store a.index.now committee c.if-index-store.false (sym c.check_rows.ensures ∙ c.if-not-check_rows.false)

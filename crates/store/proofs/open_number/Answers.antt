@@ -1,5 +1,4 @@
 -- `store::open_number` meets its contract: a check after the other. Assumes nothing.
-use borrow.Author.Rules.{rules}
 use mathlib.Core.Path.{sym, ◌∙◌}
 use Rattle.wal.specs.Answers.{walked_number}
 use Rattle.wal_position.proofs.Checks.{unless_passed, unless_refused}

@@ -1,5 +1,4 @@
 -- `store::BlockStore::open` meets its contract: the parts are what the definitions name. Assumes nothing.
-use borrow.Author.Rules.{rules}
 use Rattle.store.specs.Store.{opened_of, opened}
 use Rattle.store.proofs.BlockStore.open.Goals as goal
 

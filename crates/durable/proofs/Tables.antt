@@ -2,7 +2,7 @@
 use mathlib.Core.Path.{◌≡◌, refl, sym, ap, ◌∙◌}
 use mathlib.Core.List.{List, [], ◌∷◌, ◌++◌}
 use mathlib.Core.Logic.{◌⊎◌, inl, inr, ⊎_elim}
-use Prim.Native.Nat.{ℕ, zero, suc, ◌+◌, ◌≤◌, ◌<◌}
+use Prim.Native.Nat.{ℕ, zero, suc, ◌+◌}
 use native.Mathlib.Omega.{arith}
 use lib.ListN.{length}
 use Rattle.laws.proofs.Tests.{leb_cases, eqb_cases}
@@ -11,7 +11,7 @@ use Rattle.wal_position.proofs.Checks.{unless_passed}
 use Rattle.wal_reader.specs.Entries.{Entry}
 use Rattle.wal.specs.Walk.{Stop, Walk, walk_at}
 use Rattle.committee.specs.Committee.{committee_check}
-use Rattle.replay.specs.Items.{Item, Classified, refuse, item, classify, ReplayEntry, block_in}
+use Rattle.replay.specs.Items.{Classified, refuse, item, classify, ReplayEntry, block_in}
 use Rattle.replay.specs.Rules.{blocks, pending, unprocessed, committed, index}
 use Rattle.replay.specs.Recovery.{Lent, Recovery, refused, recovered, Scanned, scan, refused_at, block_check, rows_check, entry_check, replayed, recover}
 use Rattle.state.proofs.Checks.{check_classified, check_block, check_full, check_passes, rows_pass, pending_full, unprocessed_full, committed_full, index_full}

@@ -2,7 +2,7 @@
 use mathlib.Core.Path.{◌≡◌, refl, sym, ap₂}
 use mathlib.Core.Bool.{Bool, true, false}
 use mathlib.Core.List.{List, [], ◌∷◌, map, append-nil}
-use Prim.Native.Nat.{ℕ, ◌+◌, ◌-◌, ◌^◌, ◌≤◌, ◌<◌}
+use Prim.Native.Nat.{ℕ, ◌+◌, ◌^◌, ◌≤◌, ◌<◌}
 use native.Mathlib.Nat.{lt_of_le_of_lt}
 use native.Mathlib.Omega.{arith}
 use lib.Dec.{lit<, lit≤}
@@ -53,7 +53,7 @@ unfolding spaced all pick
 four {a = a} {b = b} {c = c} {d = d} fit h k m n =
     line_of (spaced (a ∷ b ∷ c ∷ d ∷ []))
     (simp length-append (omega (arith, h.most, k.most, m.most, n.most)))
-    (rw (all_append, h.plain, all_append, k.plain, all_append, m.plain, n.plain))
+    (rw (all_append printed a, h.plain, all_append printed b, k.plain, all_append printed c, m.plain, n.plain))
 
 -- ---- Rows
 

@@ -1,7 +1,6 @@
 -- `page_lines::put_count` meets its contract. Assumes nothing.
 use native.Mathlib.Omega.{arith}
 use Rattle.page_lines.proofs.Fields.{right_ends, count_put}
-use borrow.Author.Rules.{rules}
 use Rattle.page_lines.proofs.put_count.Goals as goal
 
 pub put_byte-requires : goal.put_byte-requires

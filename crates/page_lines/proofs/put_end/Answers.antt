@@ -3,7 +3,6 @@ use Prim.Native.Nat.{◌-◌}
 use native.Mathlib.Omega.{arith}
 use Rattle.text.proofs.Columns.{length_blanks}
 use Rattle.page_lines.proofs.Fields.{end_put}
-use borrow.Author.Rules.{rules}
 use Rattle.page_lines.proofs.put_end.Goals as goal
 
 pub put_byte-requires : goal.put_byte-requires

@@ -4,7 +4,6 @@ use Rattle.laws.specs.Ascii.{ascii}
 use Rattle.text.proofs.Columns.{length_blanks}
 use Rattle.text.proofs.Put.{then_put}
 use Rattle.page_lines.proofs.Fields.{right_ends, left_ends, payload_put, block_put}
-use borrow.Author.Rules.{rules}
 use Rattle.page_lines.proofs.put_kind.Goals as goal
 
 pub put_blanks-requires : goal.put_blanks-requires

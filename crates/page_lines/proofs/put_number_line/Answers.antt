@@ -2,7 +2,6 @@
 use native.Mathlib.Omega.{arith}
 use Rattle.page_lines.specs.Lines.{number_line}
 use Rattle.page_lines.proofs.Fields.{line_put, right_ends}
-use borrow.Author.Rules.{rules}
 use Rattle.page_lines.proofs.put_number_line.Goals as goal
 
 pub put_end-requires : goal.put_end-requires

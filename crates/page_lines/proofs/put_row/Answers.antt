@@ -3,7 +3,6 @@ use native.Mathlib.Omega.{arith}
 use Rattle.text.proofs.Put.{then_put}
 use Rattle.page_lines.proofs.Fields.{line_put}
 use Rattle.page_lines.proofs.Rows.{row_words}
-use borrow.Author.Rules.{rules}
 use Rattle.page_lines.proofs.put_row.Goals as goal
 
 pub returns : goal.returns

@@ -2,7 +2,6 @@
 use mathlib.Core.Path.{sym, ◌∙◌}
 use Rattle.query.specs.Query.{call_of}
 use Rattle.lookup_after.proofs.After.{after_refused, after_last, after_passed}
-use borrow.Author.Rules.{rules}
 use Rattle.lookup_after.proofs.check_after.Goals as goal
 
 pub returns-then-number-ne0 : goal.returns-then-number-ne0

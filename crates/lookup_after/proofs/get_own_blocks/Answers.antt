@@ -7,7 +7,6 @@ use Rattle.query.specs.Query.{Call, call_of}
 use Rattle.query.proofs.Answering.{query_refused, query_answers}
 use Rattle.lookup_after.specs.After.{after_number, get_own_blocks}
 use Rattle.lookup_after.proofs.After.{after_checked}
-use borrow.Author.Rules.{rules}
 use Rattle.lookup_after.proofs.get_own_blocks.Goals as goal
 use Rattle.lookup_after.proofs.get_own_blocks.Goals.{Else-number-ne0}
 

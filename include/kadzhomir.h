@@ -1,7 +1,7 @@
 /*
  * kadzhomir.h: the log store of a ledger node, for programs in C, C++ and Rust.
  *
- * Link libnode.a ("rt staticlib node"). Every function is proved to meet its contract (crates/node*); the contracts say
+ * Link libnode.a ("rt lib" in crates/node). Every function is proved to meet its contract (crates/node*); the contracts say
  * what each word below holds, for every argument.
  *
  * A slice, of any length, is a pointer and a number of elements. An array (a store, a reference, an answer) has the

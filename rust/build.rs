@@ -1,5 +1,5 @@
 //! Links the proved archive, libnode.a: that in the folder KADZHOMIR_LIB_DIR; or else that of the repository around this crate,
-//! which `rt staticlib node` makes, here where it is missing or older than a file that it is proved from.
+//! which `rt lib` in crates/node makes, here where it is missing or older than a file that it is proved from.
 use std::fs::{self, File};
 use std::io::{ErrorKind, Write};
 use std::path::{Path, PathBuf};
@@ -37,12 +37,12 @@ fn made(root: &Path) -> PathBuf {
     if !crates.is_dir() || !list.is_file() {
         fail(&format!(
             "this crate stands outside its repository, whose proved archive it links: set {LIB_DIR} to the folder of a libnode.a \
-             (in the repository `rt staticlib node` writes target/staticlib/libnode.a)"
+             (in the repository `rt lib` in crates/node writes crates/node/out/libnode.a)"
         ));
     }
     println!("cargo::rerun-if-changed={}", crates.display());
     println!("cargo::rerun-if-changed={}", list.display());
-    let (folder, newest) = (root.join("target/staticlib"), newest(&crates).max(modified(&list)));
+    let (folder, newest) = (crates.join("node/out"), newest(&crates).max(modified(&list)));
     let archive = folder.join("libnode.a");
     if modified(&archive) < newest {
         prove(root);
@@ -52,7 +52,7 @@ fn made(root: &Path) -> PathBuf {
         }
     }
     if !archive.is_file() {
-        fail(&format!("`rt staticlib node` did not write {}", archive.display()));
+        fail(&format!("`rt lib` did not write {}", archive.display()));
     }
     folder
 }
@@ -77,10 +77,10 @@ fn modified(file: &Path) -> Option<SystemTime> {
 }
 
 fn prove(root: &Path) {
-    tell("`rt staticlib node` proves the archive libnode.a, which was missing or out of date; this takes minutes");
-    match Command::new("rt").args(["staticlib", "node"]).current_dir(root).status() {
+    tell("`rt lib` in crates/node proves the archive libnode.a, which was missing or out of date; this takes minutes");
+    match Command::new("rt").arg("lib").current_dir(root.join("crates/node")).status() {
         Ok(status) if status.success() => {}
-        Ok(status) => fail(&format!("`rt staticlib node` failed ({status})")),
+        Ok(status) => fail(&format!("`rt lib` in crates/node failed ({status})")),
         Err(e) if e.kind() == ErrorKind::NotFound => fail(&format!(
             "the archive libnode.a is missing or out of date, and rt, which makes it, is not on the path: install Rattle's kit, or set \
              {LIB_DIR} to the folder of a libnode.a"

@@ -1,6 +1,6 @@
 //! A log store that is proved: its write-ahead log, its recovery, and its block store; and a node's log in a file.
 //!
-//! The code behind these calls is the archive libnode.a, which `rt staticlib node` makes once each function is proved to
+//! The code behind these calls is the archive libnode.a, which `rt lib` in crates/node makes once each function is proved to
 //! meet its contract. This crate only lends it memory, writes bytes to files and names its answers. A call serves whatever it
 //! is given, or says by a [`Refusal`] why not; none panics on the log's bytes.
 //!

@@ -5,9 +5,9 @@ set -eu
 cd "$(dirname "$0")/../.."
 out=target/bench
 mkdir -p "$out"
-if ! rt staticlib node > "$out/staticlib.log" 2>&1; then
+if ! (cd crates/node && rt lib) > "$out/staticlib.log" 2>&1; then
     tail -n 20 "$out/staticlib.log"
     exit 1
 fi
-gcc -std=c11 -O2 -Wall -Wextra -I include -o "$out/growth" tools/bench/growth.c target/staticlib/libnode.a -lm
+gcc -std=c11 -O2 -Wall -Wextra -I include -o "$out/growth" tools/bench/growth.c crates/node/out/libnode.a -lm
 exec "$out/growth"

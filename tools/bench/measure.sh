@@ -2,7 +2,7 @@
 # Measures append, walk, recovery and lookups of the unedited Rust and of the proved library, with the same inputs in one process
 # (tools/oracle/src/measure.rs), and prints tables for docs/PERFORMANCE.md. A machine with other work gives a wide spread: the last
 # table, of instructions counted by valgrind, does not depend on that.
-#   KADZHOMIR_LIB_DIR   a folder with another libnode.a (default: the proved one, by "rt staticlib node")
+#   KADZHOMIR_LIB_DIR   a folder with another libnode.a (default: the proved one, by "rt lib" in crates/node)
 #   RUST_SRC            see tools/oracle/prepare.sh
 set -eu
 cd "$(dirname "$0")/../.."
@@ -13,7 +13,7 @@ quiet() {
     "$@" > "$out/measure.log" 2>&1 || { tail -n 30 "$out/measure.log"; exit 1; }
 }
 
-[ -n "${KADZHOMIR_LIB_DIR:-}" ] || quiet rt staticlib node
+[ -n "${KADZHOMIR_LIB_DIR:-}" ] || (cd crates/node && quiet rt lib)
 cd tools/oracle
 . ./prepare.sh
 quiet cargo build --offline --release --features differential --bin measure

@@ -6,7 +6,7 @@
 # It makes the sample of the Rust's answers that crates/store_cases replays, and compares it with the stored one. Then,
 # without --k it runs both builds of the Rust: regions of 2^28 bytes, and its test build with 2^16. --logs counts the random
 # logs of each. It ends at the first difference, says how to see it again, and answers 1.
-#   KADZHOMIR_LIB_DIR   a folder with another libnode.a (default: the proved one, by "rt staticlib node")
+#   KADZHOMIR_LIB_DIR   a folder with another libnode.a (default: the proved one, by "rt lib" in crates/node)
 #   RUST_SRC            see tools/oracle/prepare.sh
 set -eu
 cd "$(dirname "$0")/../.."
@@ -26,7 +26,7 @@ quiet() {
     "$@" > "$out/build.log" 2>&1 || { tail -n 30 "$out/build.log"; exit 1; }
 }
 
-[ -n "${KADZHOMIR_LIB_DIR:-}" ] || quiet rt staticlib node
+[ -n "${KADZHOMIR_LIB_DIR:-}" ] || (cd crates/node && quiet rt lib)
 cd tools/oracle
 . ./prepare.sh
 quiet cargo build --offline --profile checked --features differential --bin differential --bin store

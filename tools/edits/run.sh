@@ -3,7 +3,7 @@
 #
 # Tries the must-fail edits of tools/edits/NAME, of the named crates or of all: each is applied to a copy of its crate, and the prover
 # must refuse it. The gate (.ci/run) tries those of crates/NAME/must-fail, and these are too many for it. Prints a line for each edit,
-# and exits non-zero where one is not refused. What the repository's target/ has proved is not proved again.
+# and exits non-zero where one is not refused. What checks of this repository have proved on this machine is not proved again.
 set -euo pipefail
 cd "$(dirname "$0")/../.."
 if [ $# -eq 0 ]; then
@@ -11,8 +11,7 @@ if [ $# -eq 0 ]; then
 fi
 copy=$(mktemp -d)
 trap 'rm -rf "$copy"' EXIT
-cp -R crates crates.txt "$copy"
-rm -rf "$copy"/crates/*/must-fail
+tar -cf - --exclude=out --exclude=must-fail crates crates.txt | tar -xf - -C "$copy"
 for name; do
     if ! ls "tools/edits/$name"/*.edit > /dev/null 2>&1; then
         echo "run.sh: there is no edit in tools/edits/$name" >&2
@@ -20,10 +19,6 @@ for name; do
     fi
     mkdir "$copy/crates/$name/must-fail"
     cp "tools/edits/$name"/*.edit "$copy/crates/$name/must-fail"
-done
-mkdir "$copy/target"
-for part in rlib stamp; do
-    if [ -d "target/$part" ]; then cp -R "target/$part" "$copy/target"; fi
 done
 cd "$copy"
 set +e

@@ -1,12 +1,9 @@
 -- `payloads::list_small` meets its contract. After i turns the lines of the first i payloads are put. Assumes nothing.
 use borrow.Author.Rules.{rules}
 use mathlib.Core.List.{[]}
-use Prim.Native.Nat.{◌-◌, ◌≤◌}
 use native.Mathlib.Omega.{arith}
-use lib.ListN.{take}
 use Rattle.laws.specs.Parse.{joined}
-use Rattle.text.specs.Put.{Put}
-use Rattle.text.proofs.Put.{put_length, put_none, put_next, put_all}
+use Rattle.text.proofs.Put.{put_none, put_next, put_all}
 use Rattle.payloads.specs.Small.{small_payloads, payload_line, small_text}
 use Rattle.payloads.proofs.Request13.{count}
 use Rattle.payloads.proofs.Lines.{lines_at_most}

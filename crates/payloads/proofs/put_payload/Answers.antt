@@ -1,9 +1,6 @@
 -- `payloads::put_payload` meets its contract: what it is given are whole statements, and the encoder has room for them. Assumes nothing.
-use borrow.Author.Rules.{rules}
-use mathlib.Core.Path.{◌≡◌, refl, ap}
-use mathlib.Core.List.{List, ◌++◌}
-use mathlib.Core.Logic.{⊎_elim}
-use Prim.Native.Nat.{ℕ, ◌≤◌}
+use mathlib.Core.Path.{refl, ap}
+use mathlib.Core.List.{◌++◌}
 use native.Mathlib.Omega.{arith}
 use lib.ListN.{length, take}
 use Rattle.laws.specs.Bytes.{le}
@@ -16,37 +13,18 @@ use Rattle.payloads.specs.Small.{payload_line}
 use Rattle.payloads.proofs.put_payload.Goals as goal
 use Rattle.payloads.proofs.put_payload.Goals.{After-encode_payload, In-End, Start}
 
-size : (c : Start) → length ((le 8 c.args.count ++ c.args.statements.now)) ≤ 21
-size c = omega (arith, c.requires.at_bound.1, length_counted c.args.count c.args.statements.now)
-
 encoded : (c : After-encode_payload)
-    → AtStart ((le 8 c.args.count ++ c.args.statements.now)) c.encode_payload.result c.encode_payload.new.out
+    → AtStart (le 8 c.args.count ++ c.args.statements.now) c.encode_payload.result c.encode_payload.new.out
 encoded c =
     at_start
     (rw (payload_laid c.args.count c.args.statements.now refl c.requires.statements_value
-    (λ i. omega (arith, c.shared_slice_known-1.given i))) at c.encode_payload.ensures)
-    ((omega (arith, c.requires.at_bound.1, length_counted c.args.count c.args.statements.now)))
-
-part_is : (c : In-End) → (take c.in-End.end c.encode_payload.new.out) ≡ (le 8 c.args.count ++ c.args.statements.now)
-part_is c = bytes_at_start ((at_start
-    (rw (payload_laid c.args.count c.args.statements.now refl c.requires.statements_value
-    (λ i. omega (arith, c.shared_slice_known-1.given i))) at c.encode_payload.ensures)
-    ((omega (arith, c.requires.at_bound.1, length_counted c.args.count c.args.statements.now))))) c.in-End.is
-
-part-size : (c : In-End) → length ((take c.in-End.end c.encode_payload.new.out)) ≤ 21
-part-size c = omega (
-  arith,
-  ap length ((bytes_at_start ((at_start
-      (rw (payload_laid c.args.count c.args.statements.now refl c.requires.statements_value
-      (λ i. omega (arith, c.shared_slice_known-1.given i))) at c.encode_payload.ensures)
-      ((omega (arith, c.requires.at_bound.1, length_counted c.args.count c.args.statements.now))))) c.in-End.is)),
-  (omega (arith, c.requires.at_bound.1, length_counted c.args.count c.args.statements.now)),
-)
+    (λ i. omega (arith, c.type_inv.statements i))) at c.encode_payload.ensures)
+    (omega (arith, c.requires.at_bound.1, length_counted c.args.count c.args.statements.now))
 
 -- another answer than End there is not
 pub returns-in_default : goal.returns-in_default
 returns-in_default c =
-    ⊎_elim (λ e. absurd (omega (arith, e))) (λ e. absurd (omega (arith, e))) (rw (encoded (goal.at.returns-in_default c).After-encode_payload).answer at c.in-End.keys2)
+    absurd (c.in_default.not-End _ (encoded (goal.at.returns-in_default c).After-encode_payload).answer)
 
 pub slice_bounds-payload-end : goal.slice_bounds-payload-end
 slice_bounds-payload-end c =
@@ -56,15 +34,29 @@ pub slice_bounds-put_hex_bytes-end : goal.slice_bounds-put_hex_bytes-end
 slice_bounds-put_hex_bytes-end c =
     length_at_start (encoded (goal.at.slice_bounds-put_hex_bytes-end c).After-encode_payload) c.in-End.is
 
+-- what is shown: the payload, 21 bytes at most
 pub put_hex_bytes-next-requires : goal.put_hex_bytes-next-requires
 put_hex_bytes-next-requires c =
-    (omega (arith, c.requires.at_bound.0), omega (arith, part-size (goal.at.put_hex_bytes-next-requires c).In-End))
+    let part = bytes_at_start (encoded (goal.at.put_hex_bytes-next-requires c).After-encode_payload) c.in-End.is in (
+      omega (arith, c.requires.at_bound.0),
+      omega (arith, ap length part, length_counted c.args.count c.args.statements.now, c.requires.at_bound.1),
+    )
 
 pub put_bytes-requires : goal.put_bytes-requires
 put_bytes-requires c =
-    omega (arith, c.put_hex_bytes-next.ensures.next, length_hex_bytes ((take c.in-End.end c.encode_payload.new.out)), part-size (goal.at.put_bytes-requires c).In-End, c.requires.at_bound.0)
+    let part = bytes_at_start (encoded (goal.at.put_bytes-requires c).After-encode_payload) c.in-End.is in
+    omega (
+      arith,
+      c.put_hex_bytes-next.ensures.next,
+      length_hex_bytes (take c.in-End.end c.encode_payload.new.out),
+      ap length part,
+      length_counted c.args.count c.args.statements.now,
+      c.requires.at_bound.1,
+      c.requires.at_bound.0,
+    )
 
 pub returns : goal.returns
 unfolding payload_line
 returns c =
-    then_put (rw (part_is (goal.at.returns c).In-End) at c.put_hex_bytes-next.ensures) c.put_bytes.ensures
+    let part = bytes_at_start (encoded (goal.at.returns c).After-encode_payload) c.in-End.is in
+    then_put (rw part at c.put_hex_bytes-next.ensures) c.put_bytes.ensures

@@ -14,10 +14,10 @@ put_payload-requires c = record {
 }
 
 pub returns-in-0 : goal.returns-in-0
-returns-in-0 c = rw (c.in-0.is, small_none) c.put_payload.ensures
+returns-in-0 c = rw (c.in-0.is, small_none) (search rules)
 
 pub returns-in-1 : goal.returns-in-1
-returns-in-1 c = rw (c.in-1.is, small_empty) c.put_share.ensures
+returns-in-1 c = rw (c.in-1.is, small_empty) (search rules)
 
 pub returns-in_default : goal.returns-in_default
 returns-in_default c =

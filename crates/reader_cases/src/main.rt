@@ -1,6 +1,6 @@
 // Writes a log with `append_to`, reads it and damaged copies of it with `next` of an iterator, and shows what
-// `into_meta_statement` makes of each entry that is listed. The borrow checker covers no function that lends a writer or
-// an iterator, so the two calls are made through `append_through` and `step_through`.
+// `into_meta_statement` makes of each entry that is listed. The two calls are made through `append_through` and
+// `step_through`.
 //
 // The file `stdout` was made by tools/model/reader_cases.py, a model written from document 01.
 #![tactic(auto)]

@@ -1,7 +1,7 @@
 -- What a recovery leaves for its page: the number of a refusal, or the pending rows. Assumes nothing.
 use mathlib.Core.Path.{◌≡◌, refl, sym, ap, ap₂, ◌∙◌}
-use mathlib.Core.List.{List, [], ◌∷◌, ◌++◌, map}
-use Prim.Native.Nat.{ℕ, ◌+◌, ◌-◌, ◌*◌, ◌^◌, ◌≤◌}
+use mathlib.Core.List.{List, [], ◌∷◌, map}
+use Prim.Native.Nat.{ℕ, ◌-◌, ◌*◌, ◌^◌, ◌≤◌}
 use native.Mathlib.Omega.{arith}
 use lib.ListN.{length, length-append, length-map}
 use Rattle.laws.specs.Bytes.{AllBytes, zeros}
@@ -11,14 +11,13 @@ use Rattle.wal_position.specs.declared.WalPosition.{WalPosition}
 use Rattle.wal.specs.Walk as walk
 use Rattle.wal.specs.Answers.{stop_of, walked_of}
 use Rattle.wal.specs.declared.Stop.{Stop}
-use Rattle.wal.specs.declared.Walked.{Walked}
 use Rattle.wal.specs.declared.Walked.TheVariants.{Stopped, Refused}
 use Rattle.rows.specs.Rows.{rows_of}
 use Rattle.tables.specs.Tables.{EightWords, table_of}
 use Rattle.tables.proofs.Tables.{rows_of_flat, length_flat}
 use Rattle.index.specs.Keys.{key_words, digest_words}
 use Rattle.replay.specs.Items.{Item, is_block, is_payload, is_own_block, is_state, is_commit, ReplayEntry}
-use Rattle.replay.specs.Rules.{pending, unprocessed, committed}
+use Rattle.replay.specs.Rules.{pending}
 use Rattle.replay.specs.Recovery.{Recovery, refused, recovered, recover}
 use Rattle.state.specs.declared.Replay.{Replay}
 use Rattle.state.specs.Tables.{pending_row, blocks_of, replay_of}

@@ -5,7 +5,7 @@ use mathlib.Core.Logic.{◌⊎◌, inl, inr, ⊎_elim}
 use Prim.Native.Nat.{ℕ, ◌+◌, ◌-◌, ◌*◌, ◌≤◌, ◌<◌}
 use native.Mathlib.Omega.{arith}
 use lib.ListN.{length, take, drop, length-drop, length-map}
-use lib.Seq.{take_at, drop-drop, take_all}
+use lib.Seq.{take_at, drop-drop}
 use Rattle.laws.specs.Pick.{pick}
 use Rattle.laws.specs.Parse.{joined}
 use Rattle.laws.proofs.Parses.{joined_append}
@@ -16,7 +16,7 @@ use Rattle.rows.specs.Rows.{rows_of, row_at}
 use Rattle.rows.proofs.Rows.{rows_from, rows_from_none, rows_from_cons, rows_from_add, drop_rows_of, length_rows_of}
 use Rattle.page_lines.specs.Lines.{heading}
 use Rattle.page_lines.specs.Words.{row_text}
-use Rattle.page_text.specs.Page.{parts, text, page, pages}
+use Rattle.page_text.specs.Page.{page, pages}
 use Rattle.page_put.specs.Ends.{page_end}
 use Rattle.page_text.proofs.Texts.{text_map}
 use Rattle.page_text.proofs.Parts.{parts_last, parts_more, map_take, map_drop}

@@ -11,7 +11,7 @@ use Rattle.store.specs.Store.{indexed}
 use Rattle.store.proofs.Checked.{Checked}
 use Rattle.filters.specs.Segments.{chosen}
 use Rattle.filters.proofs.Queries.{at_reference, no_reference_lem}
-use Rattle.query.specs.Query.{call_of, call_number}
+use Rattle.query.specs.Query.{Call, call_of, call_number}
 use Rattle.query.proofs.Answering.{query_checked, query_refused, query_answers}
 use Rattle.lookup.specs.Lookups.{get_block}
 use Rattle.lookup.proofs.get_block.Goals as goal
@@ -19,18 +19,16 @@ use Rattle.lookup.proofs.get_block.Goals.{After-find-found, Else-number-ne0}
 
 -- the call, and what its checks say once they have passed
 
-checked : (c : Else-number-ne0) → Checked ((let a = c.args in
-    call_of a.k a.image.now a.used a.store a.index.now)).store ((let a = c.args in
-    call_of a.k a.image.now a.used a.store a.index.now)).index
-checked c = query_checked ((let a = c.args in
-    call_of a.k a.image.now a.used a.store a.index.now)) c.check_call-number.ensures c.if-number-ne0.false
+abbrev call : (c : Else-number-ne0) → Call
+call c =
+    let a = c.args in
+    call_of a.k a.image.now a.used a.store a.index.now
 
-place : (c : After-find-found) → ◌≡◌ {A = Place} c.find-found.result (place_of (key_words c.args.reference) (rows_of ((let a = c.args in
-    call_of a.k a.image.now a.used a.store a.index.now)).store.rows ((let a = c.args in
-    call_of a.k a.image.now a.used a.store a.index.now)).index))
-place c = c.find-found.ensures ∙ ap (λ (k : List ℕ). place_of k (rows_of ((let a = c.args in
-    call_of a.k a.image.now a.used a.store a.index.now)).store.rows ((let a = c.args in
-    call_of a.k a.image.now a.used a.store a.index.now)).index)) c.key_of.ensures
+checked : (c : Else-number-ne0) → Checked (call c).store (call c).index
+checked c = query_checked (call c) c.check_call-number.ensures c.if-number-ne0.false
+
+place : (c : After-find-found) → ◌≡◌ {A = Place} c.find-found.result (place_of (key_words c.args.reference) (rows_of c.args.store.rows c.args.index.now))
+place c = c.find-found.ensures ∙ ap (λ (k : List ℕ). place_of k (rows_of c.args.store.rows c.args.index.now)) c.key_of.ensures
 
 pub returns-then-number-ne0 : goal.returns-then-number-ne0
 returns-then-number-ne0 c =
@@ -39,45 +37,41 @@ returns-then-number-ne0 c =
     c.check_call-number.ensures c.if-number-ne0.true c.refuse.ensures.value c.refuse.ensures.out_after
 
 pub find-found-requires : goal.find-found-requires
-find-found-requires c = ((checked (goal.at.find-found-requires c).Else-number-ne0).fits, (checked (goal.at.find-found-requires c).Else-number-ne0).ascends)
+find-found-requires c =
+    let passed = (goal.at.find-found-requires c).Else-number-ne0 in
+    ((checked passed).fits, (checked passed).ascends)
 
 pub overflow_add-i : goal.overflow_add-i
 overflow_add-i c =
     let a = c.args in
-    let fits : 8 * a.store.rows ≤ length a.index.now = (checked (goal.at.overflow_add-i c).Else-number-ne0).fits in
-    omega (arith, c.well_formed, (at_reference a.index.now a.store.rows fits (checked (goal.at.overflow_add-i c).Else-number-ne0).ascends a.reference (sym c.in-At.is ∙ place (goal.at.overflow_add-i c).After-find-found)).0)
+    let passed = (goal.at.overflow_add-i c).Else-number-ne0 in
+    let fits : 8 * a.store.rows ≤ length a.index.now = (checked passed).fits in
+    omega (arith, c.well_formed, (at_reference a.index.now a.store.rows fits (checked passed).ascends a.reference (sym c.in-At.is ∙ place (goal.at.overflow_add-i c).After-find-found)).0)
 
 pub answer-requires : goal.answer-requires
 answer-requires c =
-    let h = checked (goal.at.answer-requires c).Else-number-ne0 in
+    let passed = (goal.at.answer-requires c).Else-number-ne0 in
+    let h = checked passed in
     omega (
       arith,
-      (at_reference ((let a = c.args in
-          call_of a.k a.image.now a.used a.store a.index.now)).index ((let a = c.args in
-          call_of a.k a.image.now a.used a.store a.index.now)).store.rows h.fits h.ascends _ (sym c.in-At.is ∙ place (goal.at.answer-requires c).After-find-found)).0,
+      (at_reference (call passed).index (call passed).store.rows h.fits h.ascends _ (sym c.in-At.is ∙ place (goal.at.answer-requires c).After-find-found)).0,
       h.fits,
     )
 
 pub returns-in-At : goal.returns-in-At
 unfolding indexed
 returns-in-At c =
-    let h = checked (goal.at.returns-in-At c).Else-number-ne0 in
-    query_answers ((let a = c.args in
-    call_of a.k a.image.now a.used a.store a.index.now)) _ (call_number ((let a = c.args in
-    call_of a.k a.image.now a.used a.store a.index.now))) _ (sym c.check_call-number.ensures ∙ c.if-number-ne0.false)
-    (at_reference ((let a = c.args in
-    call_of a.k a.image.now a.used a.store a.index.now)).index ((let a = c.args in
-    call_of a.k a.image.now a.used a.store a.index.now)).store.rows h.fits h.ascends _ (sym c.in-At.is ∙ place (goal.at.returns-in-At c).After-find-found)).1
+    let passed = (goal.at.returns-in-At c).Else-number-ne0 in
+    let h = checked passed in
+    query_answers (call passed) _ (call_number (call passed)) _ (sym c.check_call-number.ensures ∙ c.if-number-ne0.false)
+    (at_reference (call passed).index (call passed).store.rows h.fits h.ascends _ (sym c.in-At.is ∙ place (goal.at.returns-in-At c).After-find-found)).1
     c.answer.ensures
 
 pub returns-in-Gap : goal.returns-in-Gap
 unfolding indexed chosen
 returns-in-Gap c =
-    let h = checked (goal.at.returns-in-Gap c).Else-number-ne0 in
-    query_answers ((let a = c.args in
-    call_of a.k a.image.now a.used a.store a.index.now)) _ (call_number ((let a = c.args in
-    call_of a.k a.image.now a.used a.store a.index.now))) _ (sym c.check_call-number.ensures ∙ c.if-number-ne0.false)
-    (sym (no_reference_lem ((let a = c.args in
-    call_of a.k a.image.now a.used a.store a.index.now)).index ((let a = c.args in
-    call_of a.k a.image.now a.used a.store a.index.now)).store.rows h.fits h.ascends _ (sym c.in-Gap.is ∙ place (goal.at.returns-in-Gap c).After-find-found)))
+    let passed = (goal.at.returns-in-Gap c).Else-number-ne0 in
+    let h = checked passed in
+    query_answers (call passed) _ (call_number (call passed)) _ (sym c.check_call-number.ensures ∙ c.if-number-ne0.false)
+    (sym (no_reference_lem (call passed).index (call passed).store.rows h.fits h.ascends _ (sym c.in-Gap.is ∙ place (goal.at.returns-in-Gap c).After-find-found)))
     c.answer-in-Gap.ensures

@@ -33,12 +33,12 @@ put_right-fifth-requires c =
 pub put_byte-sixth-requires : goal.put_byte-sixth-requires
 unfolding ascii
 put_byte-sixth-requires c =
-    omega (arith, left_ends (ascii "block") (omega arith) c.put_left-third-2.ensures, c.put_byte-fourth.ensures.next, right_ends 3 c.args.author (omega arith) (omega (arith, c.ranges.author)) c.put_right-fifth.ensures, c.requires)
+    omega (arith, left_ends (ascii "block") (omega arith) c.put_left-third-2.ensures, c.put_byte-fourth.ensures.next, right_ends _ _ (omega arith) (omega arith) c.put_right-fifth.ensures, c.requires)
 
 pub put_right-requires : goal.put_right-requires
 unfolding ascii
 put_right-requires c = (
-  omega (arith, left_ends (ascii "block") (omega arith) c.put_left-third-2.ensures, c.put_byte-fourth.ensures.next, right_ends 3 c.args.author (omega arith) (omega (arith, c.ranges.author)) c.put_right-fifth.ensures, c.put_byte-sixth.ensures.next, c.requires),
+  omega (arith, left_ends (ascii "block") (omega arith) c.put_left-third-2.ensures, c.put_byte-fourth.ensures.next, right_ends _ _ (omega arith) (omega arith) c.put_right-fifth.ensures, c.put_byte-sixth.ensures.next, c.requires),
   omega arith,
 )
 
@@ -48,5 +48,5 @@ returns c =
     record {
       put = block_put c.args.kind c.args.author c.args.round c.if-kind-eq2.false
           (then_put (then_put (then_put (then_put c.put_left-third-2.ensures c.put_byte-fourth.ensures) c.put_right-fifth.ensures) c.put_byte-sixth.ensures) c.put_right.ensures);
-      upper_bound = omega (arith, left_ends (ascii "block") (omega arith) c.put_left-third-2.ensures, c.put_byte-fourth.ensures.next, right_ends 3 c.args.author (omega arith) (omega (arith, c.ranges.author)) c.put_right-fifth.ensures, c.put_byte-sixth.ensures.next, right_ends 20 c.args.round (omega arith) (omega (arith, c.ranges.round)) c.put_right.ensures);
+      upper_bound = omega (arith, left_ends (ascii "block") (omega arith) c.put_left-third-2.ensures, c.put_byte-fourth.ensures.next, right_ends _ _ (omega arith) (omega arith) c.put_right-fifth.ensures, c.put_byte-sixth.ensures.next, right_ends _ _ (omega arith) (omega arith) c.put_right.ensures);
     }

@@ -6,11 +6,11 @@ use Rattle.page_lines.proofs.put_number_line.Goals as goal
 
 pub put_end-requires : goal.put_end-requires
 put_end-requires c =
-    omega (arith, right_ends 13 c.args.number (omega arith) (omega (arith, c.ranges.number)) c.put_right-end.ensures, c.put_right-end.ensures.next)
+    omega (arith, right_ends _ _ (omega arith) (omega arith) c.put_right-end.ensures, c.put_right-end.ensures.next)
 
 pub returns : goal.returns
 unfolding number_line
 returns c =
     (line_put c.put_right-end.ensures
-    (omega (arith, right_ends 13 c.args.number (omega arith) (omega (arith, c.ranges.number)) c.put_right-end.ensures))
+    (omega (arith, right_ends _ _ (omega arith) (omega arith) c.put_right-end.ensures))
     c.put_end.ensures).0

@@ -9,7 +9,7 @@ use Rattle.page_lines.specs.Lines.{heading, row, foot, number_line}
 -- ---- Pages
 
 -- a list in parts of n, which is not 0; the last may have fewer, and an empty list is one empty part. As many divisions as there are
--- elements are enough: `parts_last` and `Parts-more` (proofs/Parts.antt) are the equations without them.
+-- elements are enough: `parts_last` and `parts_more` (proofs/Parts.antt) are the equations without them.
 unfoldable pub parts_by : {A : Type 0} → ℕ → ℕ → List A → List (List A)
 parts_by zero n l = l ∷ []
 parts_by (suc fuel) n l = pick (leb (length l) n) (l ∷ []) (take n l ∷ parts_by fuel n (drop n l))

@@ -1,0 +1,5 @@
+-- `node::kadzhomir_all_blocks_exists_at_authority_round` meets its contract: the answer of the call beneath, in words. Assumes nothing.
+use Rattle.node.proofs.kadzhomir_all_blocks_exists_at_authority_round.Goals as goal
+
+pub returns : goal.returns
+returns c = rw (c.all_blocks_exists_at_authority_round-told.ensures, c.store_of-s.ensures) at c.put_told.ensures

@@ -1,0 +1,5 @@
+-- `node::kadzhomir_decode_commit_data` meets its contract: the answer of the call beneath, in words. Assumes nothing.
+use Rattle.node.proofs.kadzhomir_decode_commit_data.Goals as goal
+
+pub returns : goal.returns
+returns c = rw c.decode_commit_data-d.ensures at c.put_commit_data.ensures

@@ -1,0 +1,5 @@
+-- `node::kadzhomir_decode_statement` meets its contract: the answer of the call beneath, in words. Assumes nothing.
+use Rattle.node.proofs.kadzhomir_decode_statement.Goals as goal
+
+pub returns : goal.returns
+returns c = rw c.decode_statement-d.ensures at c.put_statement.ensures

@@ -1,0 +1,7 @@
+-- `node::kadzhomir_get_own_blocks` meets its contract: the store, the answer in words, and the rows. Assumes nothing.
+use Rattle.node.proofs.kadzhomir_get_own_blocks.Goals as goal
+
+pub returns : goal.returns
+returns c =
+    let lookup = rw c.store_of-s.ensures at c.get_own_blocks-r.ensures in
+    record { gives = rw lookup.answer at c.put_looked.ensures; rows = lookup.words }

@@ -40,7 +40,7 @@ fn made(root: &Path) -> PathBuf {
              (in the repository `rt lib` in crates/node writes crates/node/out/libnode.a)"
         ));
     }
-    println!("cargo::rerun-if-changed={}", crates.display());
+    watch(&crates);
     println!("cargo::rerun-if-changed={}", list.display());
     let (folder, newest) = (crates.join("node/out"), newest(&crates).max(modified(&list)));
     let archive = folder.join("libnode.a");
@@ -57,12 +57,24 @@ fn made(root: &Path) -> PathBuf {
     folder
 }
 
-/// When the newest .rt or .antt file below a folder was changed.
+/// Has cargo run this program again where a file that a crate is proved from has changed.
+fn watch(crates: &Path) {
+    for entry in fs::read_dir(crates).into_iter().flatten().flatten() {
+        for part in ["src", "specs", "proofs"].map(|part| entry.path().join(part)) {
+            if part.is_dir() {
+                println!("cargo::rerun-if-changed={}", part.display());
+            }
+        }
+    }
+}
+
+/// When the newest .rt or .antt file below a folder was changed. What the prover made, in the folders `out`, is no source.
 fn newest(folder: &Path) -> Option<SystemTime> {
     let entries = fs::read_dir(folder).into_iter().flatten().flatten();
     let times = entries.map(|entry| {
         let path = entry.path();
         match entry.file_type() {
+            Ok(kind) if kind.is_dir() && entry.file_name() == "out" => None,
             Ok(kind) if kind.is_dir() => newest(&path),
             _ if path.extension().is_some_and(|e| e == "rt" || e == "antt") => modified(&path),
             _ => None,

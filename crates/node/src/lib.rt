@@ -11,7 +11,7 @@ ghost use Rattle.laws.specs.Bytes.{zeros};
 ghost use Rattle.laws.specs.Parse.{many};
 ghost use Rattle.checksum.specs.Crc32.{crc32};
 ghost use Rattle.bincode.specs.Answers.{part_answer};
-ghost use Rattle.types.specs.Records.{reference as parsedReference, reference_bytes, statement, statement_bytes, share, vote_range, block as parsedBlock, block_bytes, payload, payload_bytes};
+ghost use Rattle.types.specs.Records.{reference as parsed_reference, reference_bytes, statement, statement_bytes, share, vote_range, block as parsed_block, block_bytes, payload, payload_bytes};
 ghost use Rattle.types.specs.Answers.{reference_answer};
 ghost use Rattle.statements.specs.Answers.{statement_answer};
 ghost use Rattle.blocks.specs.Answers.{block_answer};
@@ -518,7 +518,7 @@ pub extern "C" fn kadzhomir_linked(
 // Decodes the block at a place.
 #[unsafe(no_mangle)]
 pub extern "C" fn kadzhomir_decode_block(bytes: &[u8], at: usize, answer: &mut [u64; 15]) -> u8
-    ensures { DecodesBlock (block_answer at (parsedBlock bytes.now at))
+    ensures { DecodesBlock (block_answer at (parsed_block bytes.now at))
         result answer.new }
 {
     let d = blocks::decode_block(bytes, at);
@@ -533,7 +533,7 @@ pub extern "C" fn kadzhomir_include_at(
     i: usize,
     answer: &mut [u64; 8],
 ) -> u8
-    ensures { DecodesReference (reference_answer (parsedReference bytes.now (place + 56 * i)))
+    ensures { DecodesReference (reference_answer (parsed_reference bytes.now (place + 56 * i)))
         result answer.new }
 {
     let d = types::include_at(bytes, place, i);
@@ -709,7 +709,7 @@ pub extern "C" fn kadzhomir_encode_own_block(
     answer: &mut [u64; 2],
 ) -> u8
     ensures { EncodesWords out.old at
-        (laid_out (own_block_with next_entry) (whole parsedBlock block.now))
+        (laid_out (own_block_with next_entry) (whole parsed_block block.now))
         result answer.new out.new }
 {
     let encoded = encode_commits::encode_own_block(out, at, WalPosition(next_entry), block);
@@ -729,7 +729,7 @@ pub extern "C" fn kadzhomir_encode_commit_data(
 ) -> u8
     ensures { EncodesWords out.old at
         (laid_out (commit_data_with (reference_of leader.now))
-        (whole (many parsedReference count) sub_dag.now))
+        (whole (many parsed_reference count) sub_dag.now))
         result answer.new out.new }
 {
     let x = node_store::reference_at(leader, 0);

@@ -19,12 +19,10 @@ fn show_first(rt: &impl Print, n: usize, bytes: &[u8]) -> io::Result<()> {
 
 // The bytes start, start + step, .. modulo 256.
 fn fill(bytes: &mut [u8], start: u8, step: u8) {
-    let mut i = 0;
     let mut b = start;
-    while i < bytes.len() {
-        bytes[i] = b;
-        b = ((b as u32 + step as u32) % 256) as u8;
-        i += 1;
+    for byte in bytes.iter_mut() {
+        *byte = b;
+        b = b.wrapping_add(step);
     }
 }
 
@@ -76,30 +74,19 @@ fn long(rt: &impl Print) -> io::Result<()> {
 
 // Bytes of which no two runs of 256 are alike, so that no lane is fed what another one is.
 fn fill_apart(bytes: &mut [u8]) {
-    let mut i = 0;
-    while i < bytes.len() {
-        bytes[i] = ((i % 256 * 167 + i / 256 % 256 * 59) % 256) as u8;
-        i += 1;
+    for (i, byte) in bytes.iter_mut().enumerate() {
+        *byte = ((i % 256 * 167 + i / 256 % 256 * 59) % 256) as u8;
     }
 }
 
 // Each number of octets at which blocks of eight lanes begin, one less and one more, and some that have blocks of each length.
 fn show_lengths(rt: &impl Print, bytes: &[u8]) -> io::Result<()> {
-    show_first(rt, 63, bytes)?;
-    show_first(rt, 64, bytes)?;
-    show_first(rt, 65, bytes)?;
-    show_first(rt, 127, bytes)?;
-    show_first(rt, 128, bytes)?;
-    show_first(rt, 129, bytes)?;
-    show_first(rt, 255, bytes)?;
-    show_first(rt, 256, bytes)?;
-    show_first(rt, 257, bytes)?;
-    show_first(rt, 1023, bytes)?;
-    show_first(rt, 1024, bytes)?;
-    show_first(rt, 1025, bytes)?;
-    show_first(rt, 1535, bytes)?;
-    show_first(rt, 8191, bytes)?;
-    show_first(rt, 8192, bytes)
+    for n in [
+        63, 64, 65, 127, 128, 129, 255, 256, 257, 1023, 1024, 1025, 1535, 8191, 8192,
+    ] {
+        show_first(rt, n, bytes)?;
+    }
+    Ok(())
 }
 
 fn lengths(rt: &impl Print) -> io::Result<()> {

@@ -1,12 +1,17 @@
 -- Laws of `written`, `bytes_at` and `zeros`. Assumes nothing.
 use mathlib.Core.Path.{◌≡◌, refl, sym, ap, ◌∙◌}
 use mathlib.Core.List.{List, [], ◌∷◌, ◌++◌, append_assoc, append-nil}
-use Prim.Native.Nat.{ℕ, zero, suc, ◌+◌, ◌-◌, ◌≤◌, ◌<◌}
+use Prim.Native.Nat.{ℕ, zero, suc, ◌+◌, ◌-◌, ◌/◌, ◌≤◌, ◌<◌}
 use native.Mathlib.Nat.{add-zero, zero-add, add_assoc}
 use native.Mathlib.Omega.{arith}
 use lib.ListN.{length, take, drop, set, get_or, length-append, length-take, length-drop, length-replicate, take-append-drop}
 use lib.Seq.{take-append-le, drop-append-add, take_at, drop_at, drop-drop, take-take, set_split, take-add, append_snoc, get_or-take, get_or-drop, drop-length, take-length, length-take-le}
 use native.Mathlib.Numerals.{add-one}
+use borrow.Rule.Slice.PartMut.{put_mid}
+use Rattle.std.specs.List.{between}
+use Rattle.std.specs.Simd.{first_chunks}
+use Rattle.std.proofs.lemmas.Nat.{le-div}
+use Rattle.std.proofs.lemmas.Slice.{put_mid-paste, between_to_end}
 use Rattle.laws.specs.Bytes.{bytes_at, written, zeros}
 
 pub length_zeros : (n : ℕ) → length (zeros n) ≡ n
@@ -121,3 +126,22 @@ get_or_bytes_at s p n i h = rw (get_or-take, get_or-drop)
 pub written_whole : (s v : List ℕ) → length v ≡ length s → written s 0 v ≡ v
 unfolding written
 written_whole s v h = rw (zero-add (length v), h, drop-length s, append-nil v)
+
+-- what a write to the k elements from index p on makes of s, where these become v
+pub put_mid-written : (s : List ℕ) (p k : ℕ) {t v : List ℕ} → t ≡ v → k ≡ length v → put_mid p k s t ≡ written s p v
+unfolding written
+put_mid-written s p k {t} {v} e l =
+    put_mid-paste p k s t v k e refl l ∙ rw (l, take-length v)
+
+-- the first of the chunks of n elements that s has from index p on
+pub get_or-first_chunks : (s : List ℕ) (p n : ℕ) {chunks : List (List ℕ)} → chunks ≡ first_chunks n (length (between p (length s) s) / n) (between p (length s) s) → 0 < n → p + n ≤ length s
+    → get_or chunks 0 [] ≡ bytes_at s p n
+unfolding bytes_at
+get_or-first_chunks s p n e h l =
+    let rest : between p (length s) s ≡ drop p s = between_to_end s p (length s) (omega arith) in
+    let some : 1 ≤ length (drop p s) / n = le-div 1 (length (drop p s)) n h (omega (arith, length-drop p s)) in
+    ap (λ (c : List (List ℕ)). get_or c 0 []) (e ∙ ap (λ (t : List ℕ). first_chunks n (length t / n) t) rest) ∙ first (length (drop p s) / n) (drop p s) some
+  where
+    first : (q : ℕ) (t : List ℕ) → 1 ≤ q → get_or (first_chunks n q t) 0 [] ≡ take n t
+    first zero t m = absurd (omega arith)
+    first (suc q) t m = refl

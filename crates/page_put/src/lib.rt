@@ -23,10 +23,8 @@ fn put_rows(out: &mut [u8], at: usize, pending: &[u64], from: usize, to: usize) 
     ensures value { result ≡ at + 73 * (to - from) }
 {
     let mut next = at;
-    let mut i = from;
-    while i < to {
+    for i in from..to {
         next = page_lines::put_row(out, next, pending, i);
-        i += 1;
     }
     next
 }

@@ -2,11 +2,13 @@
 -- Assumes nothing.
 use mathlib.Core.Path.{◌≡◌, refl, sym, ap}
 use mathlib.Core.List.{List, [], ◌∷◌, ◌++◌, append-nil}
-use Prim.Native.Nat.{ℕ, zero, suc, ◌+◌, ◌-◌, ◌≤◌}
+use Prim.Native.Nat.{ℕ, zero, suc, min, ◌+◌, ◌-◌, ◌≤◌}
+use native.Mathlib.Decide.{dec_le}
+use Rattle.laws.specs.Bytes.{written}
 use native.Mathlib.Nat.{add-zero, zero-add, suc-add, sub-zero, zero-sub, suc-sub-suc, le_of_suc-le-suc, not-suc-le-zero}
 use native.Mathlib.Omega.{arith}
-use lib.ListN.{length, take, drop, set, take-append-drop}
-use lib.Seq.{take-nil, drop-nil, take_all}
+use lib.ListN.{length, take, drop, set, take-append-drop, drop_of_length-le}
+use lib.Seq.{take-nil, drop-nil, take_all, take-length, length-take-le}
 use Rattle.text.specs.Clipped.{clipped}
 
 -- an empty buffer takes nothing
@@ -60,3 +62,17 @@ then_clipped (x ∷ s) zero q (c ∷ a) b e =
 pub clipped_fits : (s : List ℕ) (p : ℕ) (v : List ℕ) → p + length v ≤ length s → clipped s p v ≡ take p s ++ v ++ drop (p + length v) s
 unfolding clipped
 clipped_fits s p v h = rw (take_all (length s - p) v (omega arith))
+
+-- As much of the text as there is room for is written.
+pub clipped_written : (s : List ℕ) (p n : ℕ) (v : List ℕ) → p ≤ length s → n ≡ min (length v) (length s - p) → written s p (take n v) ≡ clipped s p v
+unfolding clipped written
+clipped_written s p n v h e =
+    let long : length (take n v) ≡ n = length-take-le n v (omega arith) in
+    elim (dec_le (length v) (length s - p)) [
+      | yes l ↦
+          let all : n ≡ length v = omega arith in
+          rw (long, all, take-length v, take_all (length s - p) v l)
+      | no l ↦
+          let room : n ≡ length s - p = omega arith in
+          rw (long, drop_of_length-le s {i = p + n} (omega arith), drop_of_length-le s {i = p + length v} (omega arith), room)
+    ]

@@ -1,9 +1,8 @@
 -- Laws of `decimal`, `hex8` and `hex_bytes`. Assumes nothing.
 use mathlib.Core.Path.{◌≡◌, refl, sym, ap, ◌∙◌}
 use mathlib.Core.List.{List, [], ◌∷◌, ◌++◌}
-use Prim.Native.Nat.{ℕ, zero, suc, ◌+◌, ◌-◌, ◌*◌, ◌/◌, ◌%◌, ◌^◌, ◌≤◌, ◌<◌}
+use Prim.Native.Nat.{ℕ, zero, suc, ◌+◌, ◌*◌, ◌/◌, ◌%◌, ◌^◌, ◌≤◌, ◌<◌}
 use native.Mathlib.Nat.{not-suc-le-zero, lt_of_lt_of_le, pow-suc}
-use native.Mathlib.Numerals.{sub-one}
 use native.Mathlib.Omega.{arith}
 use native.Mathlib.Decide.{dec_lt}
 use borrow.Author.Tests.{lt-ltb, le-ltb}
@@ -74,10 +73,9 @@ unfolding hex_digits
 hex_digits_none zero n h = refl
 hex_digits_none (suc k) n h = absurd (not-suc-le-zero h)
 
-pub hex_digits_next : (k n : ℕ) → 0 < k → hex_digits k n ≡ hex_digit (n / 2 ^ (4 * (k - 1)) % 16) ∷ hex_digits (k - 1) n
+pub hex_digits_next : (k j n : ℕ) → k ≡ suc j → hex_digits k n ≡ hex_digit (n / 2 ^ (4 * j) % 16) ∷ hex_digits j n
 unfolding hex_digits
-hex_digits_next zero n h = absurd (not-suc-le-zero h)
-hex_digits_next (suc k) n h = rw sub-one
+hex_digits_next k j n e = rw e
 
 -- The length of the digits of some bytes.
 pub length_hex_bytes : (bytes : List ℕ) → length (hex_bytes bytes) ≡ 2 * length bytes

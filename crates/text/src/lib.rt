@@ -22,10 +22,8 @@ pub fn put_bytes(out: &mut [u8], at: usize, text: &[u8]) -> usize
     requires { at < 2 ^ 63 }
     ensures { Put at text.now out.old out.new result }
 {
-    let mut i = 0;
-    while i < text.len() {
-        store(out, at + i, text[i]);
-        i += 1;
+    for (i, b) in text.iter().enumerate() {
+        store(out, at + i, *b);
     }
     at + text.len()
 }
@@ -48,12 +46,9 @@ fn put_hex(out: &mut [u8], at: usize, n: u32, digits: usize) -> usize
     requires { (at < 2 ^ 63) × (digits ≤ 8) }
     ensures { Put at (hex_digits digits n) out.old out.new result }
 {
-    let mut done = 0;
-    let mut left = digits;
-    while left > 0 {
-        left -= 1;
+    for done in 0..digits {
+        let left = digits - 1 - done;
         store(out, at + done, hex_digit(n >> (4 * left)));
-        done += 1;
     }
     at + digits
 }
@@ -72,10 +67,8 @@ pub fn put_hex_bytes(out: &mut [u8], at: usize, bytes: &[u8]) -> usize
     ensures { Put at (hex_bytes bytes.now) out.old out.new result }
 {
     let mut next = at;
-    let mut i = 0;
-    while i < bytes.len() {
-        next = put_hex(out, next, wide(bytes[i]), 2);
-        i += 1;
+    for b in bytes {
+        next = put_hex(out, next, u32::from(*b), 2);
     }
     next
 }
@@ -87,10 +80,8 @@ pub fn put_blanks(out: &mut [u8], at: usize, n: usize) -> usize
     requires { (at < 2 ^ 62) × (n < 2 ^ 62) }
     ensures { Put at (blanks n) out.old out.new result }
 {
-    let mut i = 0;
-    while i < n {
+    for i in 0..n {
         store(out, at + i, b' ');
-        i += 1;
     }
     at + n
 }
@@ -99,18 +90,19 @@ pub fn put_blanks(out: &mut [u8], at: usize, n: usize) -> usize
 pub fn missing(width: usize, len: usize) -> usize
     ensures { result ≡ width - len }
 {
-    if len < width { width - len } else { 0 }
+    width.saturating_sub(len)
 }
 
 // How many decimal digits n has.
 fn count_digits(n: u64) -> usize
     ensures { result ≡ length (decimal n) }
 {
+    // Kept: a loop that divides by ten, since there is no range or list of elements to go over.
     let mut count = 1;
     let mut left = n;
     while 10 <= left {
         count += 1;
-        left = left / 10;
+        left /= 10;
     }
     count
 }
@@ -135,17 +127,11 @@ pub fn put_left(out: &mut [u8], at: usize, width: usize, word: &[u8]) -> usize
 
 // ---- Bytes and digits
 
-// A byte as a number of 32 bits.
-fn wide(b: u8) -> u32
-    ensures { result ≡ b }
-{
-    b as u32
-}
-
 // Stores b at index at, unless the buffer ends before it.
 fn store(out: &mut [u8], at: usize, b: u8)
     ensures { out.new ≡ clipped out.old at (b ∷ []) }
 {
+    // Kept: an index under an if. After a write through `out.get_mut(at)` nothing is known of the buffer: its proof did not close.
     if at < out.len() {
         out[at] = b;
     }

@@ -1,27 +1,19 @@
--- `text::put_bytes` meets its contract. After i bytes the rest of the text is still to be put behind them. Assumes nothing.
-use borrow.Author.Rules.{rules}
-use mathlib.Core.Path.{refl}
-use native.Mathlib.Nat.{add-zero}
-use native.Mathlib.Numerals.{add-one}
-use lib.ListN.{get_or, drop_of_length-le}
-use lib.Seq.{drop-cons}
+-- `text::put_bytes` meets its contract. Assumes nothing.
+use Rattle.std.proofs.Common.{refl, add-zero, add-one, get_or, drop-cons, arith}
+use lib.ListN.{drop_of_length-le}
 use Rattle.text.proofs.Put.{next, done}
 use Rattle.text.proofs.put_bytes.Goals as goal
 
 pub loop-i-init : goal.loop-i-init
-loop-i-init c = (search rules, rw add-zero)
+loop-i-init c = rw add-zero
 
 pub loop-i-preserved : goal.loop-i-preserved
 loop-i-preserved c =
-    let a = c.args in
-    let l = c.loop-i in (
-      search rules,
-      next l.out a.at l.i (get_or a.text.now l.i 0)
-          (rw add-one (drop-cons a.text.now l.i 0 c.loop-i-test.true))
-          c.store.ensures l.invariant.1,
-    )
+    let text = c.args.text.now in
+    let l = c.loop-i in
+    next l.out c.args.at l.i (get_or text l.i 0) (rw add-one (drop-cons text l.i 0 (omega arith))) c.store.ensures l.invariant
 
 pub returns : goal.returns
 returns c =
     let l = c.loop-i in
-    record { next = refl; bytes = done l.out _ (drop_of_length-le _ c.loop-i-test.false) l.invariant.1 }
+    record { next = refl; bytes = done l.out _ (drop_of_length-le c.args.text.now {i = l.i} (omega arith)) l.invariant }

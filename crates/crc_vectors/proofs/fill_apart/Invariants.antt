@@ -1,6 +1,0 @@
--- `crc_vectors::fill_apart` is safe and ends. Assumes nothing.
-use Rattle.std.proofs.Common.{length, ◌-◌}
-use Rattle.crc_vectors.proofs.fill_apart.Given as goal
-
-abbrev pub decreases-loop-i : goal.decreases-loop-i
-decreases-loop-i l = length l.bytes - l.i

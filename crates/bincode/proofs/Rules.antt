@@ -1,5 +1,6 @@
 -- Laws of bincode's rules. Assumes nothing.
 use mathlib.Core.Path.{◌≡◌, sym, ap, ◌∙◌}
+use mathlib.Core.Bool.{Bool}
 use mathlib.Core.List.{List}
 use mathlib.Core.Logic.{inl, inr}
 use Prim.Native.Nat.{ℕ, ◌+◌, ◌≤◌, ◌<◌}
@@ -10,7 +11,7 @@ use lib.ListN.{length, get_or}
 use Rattle.laws.specs.Pick.{pick}
 use Rattle.laws.specs.Bytes.{bytes_at}
 use Rattle.laws.specs.Parse.{bad, got, Parser, then, number, many}
-use Rattle.laws.proofs.Tests.{eqb_cases}
+use Rattle.laws.proofs.Tests.{eqb_cases, leb_cases}
 use Rattle.laws.proofs.Written.{length_bytes_at}
 use Rattle.laws.proofs.LittleEndian.{of_le_one}
 use Rattle.laws.proofs.Parses.{raw_found, number_got, number_bad, number_found, then_found, many_length}
@@ -29,6 +30,20 @@ module _ (s : List ℕ) (p : ℕ) where
   pub bool_short : length s < p + 1 → bool s p ≡ bad
   unfolding bool then
   bool_short h = rw (number_bad 1 s p h)
+
+  pub bool_end : {b : Bool} {e : ℕ} → bool s p ≡ got b e → e ≡ p + 1
+  unfolding bool pick
+  bool_end {b} {e} h =
+      let a = then_found (number 1 s p) h in
+      elim (leb_cases a.0 1) [
+        | inl y ↦
+            let g : got (eqb a.0 1) a.1 ≡ got b e = (rw y.0 at a.3) in
+            let end : e ≡ a.1 = cc in
+            end ∙ (number_found 1 s p a.2).end
+        | inr m ↦
+            let g : bad ≡ got b e = (rw m.0 at a.3) in
+            absurd (cc)
+      ]
 
 -- a byte string that was found: its bytes stand behind the 8 of its count
 pub record Bytes (s : List ℕ) (p : ℕ) (bytes : List ℕ) (e : ℕ) : Type 0 where

@@ -1,3 +1,2 @@
 mod Places
-pub mod Found
 pub mod Passes

@@ -1,20 +1,20 @@
 -- The includes and the statements that a pass over a decoded block gives are those of the block. Assumes nothing.
-use mathlib.Core.Path.{◌≡◌, sym, ap, ◌∙◌}
+use mathlib.Core.Path.{◌≡◌, ap, ◌∙◌}
 use mathlib.Core.List.{List}
 use Prim.Native.Nat.{ℕ, ◌+◌, ◌*◌, ◌<◌}
 use native.Mathlib.Omega.{arith}
 use lib.ListN.{length, get_or}
-use Rattle.laws.specs.Parse.{got, many}
+use Rattle.laws.specs.Parse.{got, number, many}
 use Rattle.laws.proofs.Parses.{then_found, got_value}
-use Rattle.bincode.specs.Bincode.{vec}
+use Rattle.bincode.specs.Bincode.{bool, vec}
 use Rattle.bincode.specs.Cursors.{next_element, after}
 use Rattle.bincode.proofs.Rules.{vec_run}
 use Rattle.bincode.proofs.Cursors.{step_at}
+use Rattle.crypto.specs.Records.{signature}
 use Rattle.types.specs.declared.BlockReference.{BlockReference}
 use Rattle.types.specs.Records.{reference, statement, StatementValue, block, BlockValue}
 use Rattle.types.proofs.References.{reference_width, references_listed, include_at}
-use Rattle.blocks.specs.Answers.{trailer, statement_block}
-use Rattle.blocks.proofs.Places.{whole, block_upto}
+use Rattle.blocks.specs.Answers.{statement_block}
 
 -- the elements of both lists stand in a row at the places that the decoder answers
 pub record Runs (s : List ℕ) (p : ℕ) (b : BlockValue) : Type 0 where
@@ -29,8 +29,19 @@ runs s p {b} {e} h =
     let r = then_found (reference s p) h in
     let is = then_found (vec reference s r.1) r.3 in
     let ss = then_found (vec statement s is.1) is.3 in
-    let v = then_found (trailer s ss.1) (sym (block_upto s p r.2 is.2 ss.2) ∙ h) in
-    let value : whole r.0 is.0 ss.0 v.0 ≡ b = got_value v.3 in
+    let low = then_found (number 8 s ss.1) ss.3 in
+    let high = then_found (number 8 s low.1) low.3 in
+    let m = then_found (bool s high.1) high.3 in
+    let g = then_found (signature s m.1) m.3 in
+    let value : ◌≡◌ {A = BlockValue} (record {
+      reference = r.0;
+      includes = is.0;
+      statements = ss.0;
+      time_low = low.0;
+      time_high = high.0;
+      epoch_marker = m.0;
+      signature = g.0;
+    }) b = got_value g.3 in
     let these : is.0 ≡ b.includes = ap (λ (v : BlockValue). v.includes) value in
     let those : ss.0 ≡ b.statements = ap (λ (v : BlockValue). v.statements) value in
     let first : r.1 + 8 ≡ p + 64 = omega (arith, reference_width s p r.0 r.1 r.2) in

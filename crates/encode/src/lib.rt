@@ -5,111 +5,83 @@
 // place on. Where the record does not fit, the bytes stay as they were.
 #![tactic(auto)]
 
-ghost use Rattle.std.specs.Prelude.{◌≡◌, ◌+◌, ◌≤◌, length, leb};
+ghost use Rattle.std.specs.Prelude.{◌≡◌, ◌+◌, leb};
 ghost use Rattle.std.proofs.Math.Option.{some};
-ghost use Rattle.types.specs.Records.{reference_bytes, locator_bytes, range_bytes, vote_bytes, statement_bytes, share, vote_on, vote_range};
+ghost use Rattle.types.specs.Records.{statement_bytes, share, vote_on, vote_range};
 ghost use Rattle.put_records.specs.Votes.{vote_value};
 ghost use Rattle.encode.specs.Encoding.{Encodes};
 
-use types::{BlockReference, TransactionLocator, TransactionLocatorRange};
-use votes::{Vote, VoteKind};
+use put_records::Encode;
+use types::{TransactionLocator, TransactionLocatorRange};
+use votes::Vote;
 
-// The place behind the record; or that it does not fit; or that what was given is none.
-#[derive(Clone, Copy)]
-pub enum Encoded {
-    End(usize),
+// Why there is no place behind a record: it does not fit, or what was given is none.
+#[derive(Clone, Copy, Debug, PartialEq, Eq)]
+pub enum EncodeError {
     NoRoom,
     Malformed,
 }
-
-pub const REFERENCE_SIZE: usize = 56;
-
-pub const LOCATOR_SIZE: usize = 64;
-
-pub const RANGE_SIZE: usize = 72;
 
 // Whether n bytes fit behind the first `at` of `len`.
 pub fn has_room(len: usize, at: usize, n: usize) -> bool
     ensures { result ≡ leb (at + n) len }
 {
-    if at <= len {
-        return n <= len - at;
-    }
-    false
+    at <= len && n <= len - at
 }
 
-pub fn encode_reference(out: &mut [u8], at: usize, reference: BlockReference) -> Encoded
-    ensures { Encodes out.old at (some (reference_bytes reference)) result out.new }
+// A record of its own: a reference, a locator, a range.
+pub fn encode_record<T: Encode>(out: &mut [u8], at: usize, value: T) -> Result<usize, EncodeError>
+    ensures { Encodes out.old at (some (T.layout value)) result out.new }
 {
-    if !has_room(out.len(), at, REFERENCE_SIZE) {
-        return Encoded::NoRoom;
+    if !has_room(out.len(), at, value.size()) {
+        return Err(EncodeError::NoRoom);
     }
-    Encoded::End(put_records::put_reference(out, at, reference))
+    Ok(value.put(out, at))
 }
 
-pub fn encode_locator(out: &mut [u8], at: usize, locator: TransactionLocator) -> Encoded
-    ensures { Encodes out.old at (some (locator_bytes locator)) result out.new }
-{
-    if !has_room(out.len(), at, LOCATOR_SIZE) {
-        return Encoded::NoRoom;
-    }
-    Encoded::End(put_records::put_locator(out, at, locator))
-}
-
-pub fn encode_range(out: &mut [u8], at: usize, range: TransactionLocatorRange) -> Encoded
-    ensures { Encodes out.old at (some (range_bytes range)) result out.new }
-{
-    if !has_room(out.len(), at, RANGE_SIZE) {
-        return Encoded::NoRoom;
-    }
-    Encoded::End(put_records::put_range(out, at, range))
-}
-
+// Kept: three encoders of statements, since each is given other values; one would need a type to join them.
 // The statement Share of some bytes.
-pub fn encode_share(out: &mut [u8], at: usize, bytes: &[u8]) -> Encoded
+pub fn encode_share(out: &mut [u8], at: usize, bytes: &[u8]) -> Result<usize, EncodeError>
     ensures { Encodes out.old at (some (statement_bytes (share bytes.now))) result
         out.new }
 {
     let n = bytes.len();
     if !has_room(out.len(), at, 12 + n) {
-        return Encoded::NoRoom;
+        return Err(EncodeError::NoRoom);
     }
     fields::put_u32(out, at, 0);
-    Encoded::End(put_records::put_counted(out, at + 4, n as u64, bytes))
-}
-
-fn vote_size(vote: Vote) -> usize
-    ensures { (result ≡ length (vote_bytes (vote_value vote))) × (result ≤ 69) }
-{
-    let kind = vote.kind;
-    match kind {
-        VoteKind::Accept => 4,
-        VoteKind::Reject => 5,
-        VoteKind::RejectOther => 5 + LOCATOR_SIZE,
-    }
+    Ok(put_records::put_counted(out, at + 4, n as u64, bytes))
 }
 
 // The statement Vote.
-pub fn encode_vote(out: &mut [u8], at: usize, locator: TransactionLocator, vote: Vote) -> Encoded
+pub fn encode_vote(
+    out: &mut [u8],
+    at: usize,
+    locator: TransactionLocator,
+    vote: Vote,
+) -> Result<usize, EncodeError>
     ensures { Encodes out.old at (some (statement_bytes (vote_on locator (vote_value vote)))) result
         out.new }
 {
-    let n = vote_size(vote);
-    if !has_room(out.len(), at, 4 + LOCATOR_SIZE + n) {
-        return Encoded::NoRoom;
+    if !has_room(out.len(), at, 4 + locator.size() + vote.size()) {
+        return Err(EncodeError::NoRoom);
     }
     fields::put_u32(out, at, 1);
-    let p = put_records::put_locator(out, at + 4, locator);
-    Encoded::End(put_records::put_vote(out, p, vote))
+    let p = locator.put(out, at + 4);
+    Ok(vote.put(out, p))
 }
 
 // The statement VoteRange.
-pub fn encode_vote_range(out: &mut [u8], at: usize, range: TransactionLocatorRange) -> Encoded
+pub fn encode_vote_range(
+    out: &mut [u8],
+    at: usize,
+    range: TransactionLocatorRange,
+) -> Result<usize, EncodeError>
     ensures { Encodes out.old at (some (statement_bytes (vote_range range))) result out.new }
 {
-    if !has_room(out.len(), at, 4 + RANGE_SIZE) {
-        return Encoded::NoRoom;
+    if !has_room(out.len(), at, 4 + range.size()) {
+        return Err(EncodeError::NoRoom);
     }
     fields::put_u32(out, at, 2);
-    Encoded::End(put_records::put_range(out, at + 4, range))
+    Ok(range.put(out, at + 4))
 }

@@ -12,8 +12,7 @@ use Rattle.laws.proofs.LittleEndian.{length_le}
 use Rattle.bincode.specs.Bincode.{bool_bytes}
 use Rattle.crypto.specs.Records.{signature_bytes}
 use Rattle.types.specs.Records.{reference, reference_bytes, statement, block_bytes, payload_bytes}
-use Rattle.put_records.proofs.Lengths.{length_bool, length_counted, length_signature}
-use Rattle.encode.proofs.Sizes.{reference_size}
+use Rattle.put_records.proofs.Lengths.{length_bool, length_counted, length_signature, reference_size}
 use Rattle.roundtrip.proofs.Blocks.{reference_inverse, statement_inverse}
 use Rattle.roundtrip.proofs.Wholes.{list_bytes}
 use Rattle.encode_blocks.specs.declared.BlockFields.{BlockFields}

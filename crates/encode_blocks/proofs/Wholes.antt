@@ -1,4 +1,6 @@
 -- What a test that all of a list is a record tells. Assumes nothing.
+use Rattle.std.proofs.Common.{Some}
+use Rattle.std.specs.Option.{option_eq}
 use mathlib.Core.Path.{◌≡◌, refl, sym, ap, ◌∙◌}
 use mathlib.Core.Bool.{Bool, true, false}
 use mathlib.Core.List.{List}
@@ -10,10 +12,7 @@ use lib.Dec.{eqb}
 use lib.ListN.{length}
 use Rattle.laws.specs.Pick.{pick}
 use Rattle.laws.specs.Parse.{Res, bad, got, Parser, answer}
-use Rattle.bincode.specs.declared.End.{End}
-use Rattle.bincode.specs.declared.End.TheVariants as end
 use Rattle.bincode.specs.Answers.{end_answer}
-use Rattle.bincode.proofs.Found.{end_bad, end_got}
 use Rattle.encode_blocks.specs.Whole.{whole, is_whole, laid_out}
 
 module _ {A : Type 0} (n : ℕ) where
@@ -43,11 +42,11 @@ pub nothing_laid : {A : Type 0} (f : Parser A) (layout : A → List ℕ) (s : Li
 nothing_laid f layout s told t = rw (whole_none f s told t)
 
 -- the test, by the place where the record ends
-module _ {A : Type 0} (f : Parser A) (s : List ℕ) {r : End} (told : r ≡ end_answer (f s 0)) where
-  pub not_whole : r ≡ end.Bad → false ≡ is_whole f s
-  unfolding is_whole answer
-  not_whole b = rw (end_bad (f s 0) told b)
+ended_of : {A : Type 0} (n : ℕ) (x : Res A) → option_eq eqb (end_answer x) (Some n) ≡ answer false (λ a e. eqb e n) x
+unfolding answer
+ended_of n bad = refl
+ended_of n (got a e) = refl
 
-  pub ends_at : {e : ℕ} → r ≡ end.At e → eqb e (length s) ≡ is_whole f s
-  unfolding is_whole answer
-  ends_at g = rw (end_got (f s 0) told g).1
+pub ended : {A : Type 0} (f : Parser A) (s : List ℕ) → option_eq eqb (end_answer (f s 0)) (Some (length s)) ≡ is_whole f s
+unfolding is_whole
+ended f s = ended_of (length s) (f s 0)

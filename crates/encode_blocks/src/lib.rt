@@ -9,15 +9,17 @@
 
 ghost use Rattle.std.specs.Prelude.{◌≡◌, ◌+◌, ◌≤◌, length, leb};
 ghost use Rattle.laws.specs.Parse.{many};
-ghost use Rattle.types.specs.Records.{reference, statement, block_bytes, payload_bytes};
+ghost use Rattle.types.specs.Records.{statement, block_bytes, payload_bytes};
 ghost use Rattle.put_records.specs.Put.{Put};
 ghost use Rattle.encode.specs.Encoding.{Encodes};
 ghost use Rattle.encode_blocks.specs.Whole.{whole, is_whole, laid_out};
 ghost use Rattle.encode_blocks.specs.Blocks.{block_from, head_bytes, tail_bytes};
 
-use bincode::End;
+use bincode::{Decode, past};
 use crypto::SignatureBytes;
-use encode::Encoded;
+use encode::EncodeError;
+use put_records::Encode;
+use statements::BaseStatement;
 use types::BlockReference;
 
 // A block but for its lists, with the numbers of their elements. The creation time is in two halves.
@@ -35,24 +37,11 @@ pub struct BlockFields {
 // The bytes of a block whose lists are empty.
 pub const EMPTY_BLOCK_SIZE: usize = 161;
 
-// Whether `s` is n references and nothing else.
-pub fn are_references(s: &[u8], n: u64) -> bool
-    ensures { result ≡ is_whole (many reference n) s.now }
+// Whether `s` is n elements and nothing else.
+pub fn are_all<T: Decode>(s: &[u8], n: u64) -> bool
+    ensures { result ≡ is_whole (many T.parser n) s.now }
 {
-    let End::At(end) = types::past_references(s, 0, n) else {
-        return false;
-    };
-    end == s.len()
-}
-
-// Whether `s` is n statements and nothing else.
-pub fn are_statements(s: &[u8], n: u64) -> bool
-    ensures { result ≡ is_whole (many statement n) s.now }
-{
-    let End::At(end) = statements::past_statements(s, 0, n) else {
-        return false;
-    };
-    end == s.len()
+    past::<T>(s, 0, n) == Some(s.len())
 }
 
 // Whether n bytes and two lists fit behind the first `at` of `len`: in three steps, since the sum
@@ -60,26 +49,27 @@ pub fn are_statements(s: &[u8], n: u64) -> bool
 pub fn has_room_for(len: usize, at: usize, n: usize, first: usize, second: usize) -> bool
     ensures { result ≡ leb (at + (n + first + second)) len }
 {
-    if !encode::has_room(len, at, n) {
-        return false;
-    }
-    if !encode::has_room(len, at + n, first) {
-        return false;
-    }
-    encode::has_room(len, at + n + first, second)
+    encode::has_room(len, at, n)
+        && encode::has_room(len, at + n, first)
+        && encode::has_room(len, at + n + first, second)
 }
 
-pub fn encode_payload(out: &mut [u8], at: usize, statements: &[u8], count: u64) -> Encoded
+pub fn encode_payload(
+    out: &mut [u8],
+    at: usize,
+    statements: &[u8],
+    count: u64,
+) -> Result<usize, EncodeError>
     ensures { Encodes out.old at
         (laid_out payload_bytes (whole (many statement count) statements.now)) result out.new }
 {
-    if !are_statements(statements, count) {
-        return Encoded::Malformed;
+    if !are_all::<BaseStatement>(statements, count) {
+        return Err(EncodeError::Malformed);
     }
     if !encode::has_room(out.len(), at, 8 + statements.len()) {
-        return Encoded::NoRoom;
+        return Err(EncodeError::NoRoom);
     }
-    Encoded::End(put_records::put_counted(out, at, count, statements))
+    Ok(put_records::put_counted(out, at, count, statements))
 }
 
 // The reference and the two lists.
@@ -94,7 +84,7 @@ fn put_head(
     ensures { Put out.old at
         (head_bytes block includes.now statements.now) out.new result }
 {
-    let p = put_records::put_reference(out, at, block.reference);
+    let p = block.reference.put(out, at);
     let q = put_records::put_counted(out, p, block.include_count, includes);
     put_records::put_counted(out, q, block.statement_count, statements)
 }
@@ -106,8 +96,8 @@ fn put_tail(out: &mut [u8], at: usize, block: BlockFields) -> usize
 {
     fields::put_u64(out, at, block.time_low);
     fields::put_u64(out, at + 8, block.time_high);
-    let p = put_records::put_bool(out, at + 16, block.epoch_marker);
-    put_records::put_signature(out, p, block.signature)
+    let p = block.epoch_marker.put(out, at + 16);
+    block.signature.put(out, p)
 }
 
 pub fn encode_block(
@@ -116,16 +106,16 @@ pub fn encode_block(
     block: BlockFields,
     includes: &[u8],
     statements: &[u8],
-) -> Encoded
+) -> Result<usize, EncodeError>
     ensures { Encodes out.old at
         (laid_out block_bytes (block_from block includes.now statements.now)) result
         out.new }
 {
-    if !are_references(includes, block.include_count) {
-        return Encoded::Malformed;
+    if !are_all::<BlockReference>(includes, block.include_count) {
+        return Err(EncodeError::Malformed);
     }
-    if !are_statements(statements, block.statement_count) {
-        return Encoded::Malformed;
+    if !are_all::<BaseStatement>(statements, block.statement_count) {
+        return Err(EncodeError::Malformed);
     }
     if !has_room_for(
         out.len(),
@@ -134,8 +124,8 @@ pub fn encode_block(
         includes.len(),
         statements.len(),
     ) {
-        return Encoded::NoRoom;
+        return Err(EncodeError::NoRoom);
     }
     let p = put_head(out, at, block, includes, statements);
-    Encoded::End(put_tail(out, p, block))
+    Ok(put_tail(out, p, block))
 }

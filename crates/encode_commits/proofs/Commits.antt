@@ -1,39 +1,24 @@
 -- The bytes that stand for an own block and for a commit. Assumes nothing.
-use mathlib.Core.Path.{◌≡◌, refl}
-use mathlib.Core.Bool.{Bool, true, false}
+use mathlib.Core.Path.{◌≡◌}
+use mathlib.Core.Bool.{Bool, true}
 use mathlib.Core.List.{List, ◌++◌}
 use mathlib.Core.Option.{some}
 use Prim.Native.Nat.{ℕ, ◌+◌}
 use native.Mathlib.Omega.{arith}
-use lib.Dec.{eqb}
 use lib.ListN.{length, length-append}
 use Rattle.laws.specs.Bytes.{le, AllBytes}
-use Rattle.laws.specs.Parse.{answer, many}
-use Rattle.laws.proofs.Parses.{found_none, found_some}
+use Rattle.laws.specs.Parse.{many}
 use Rattle.bincode.specs.Bincode.{byte_string_bytes}
 use Rattle.types.specs.declared.BlockReference.{BlockReference}
 use Rattle.types.specs.Records.{reference, reference_bytes, block}
-use Rattle.blocks.specs.declared.DecodedBlock.{DecodedBlock}
-use Rattle.blocks.specs.Answers.{no_block, block_answer}
 use Rattle.commits.specs.Records.{own_block_bytes, commit_data, commit_data_bytes, commit_bytes}
-use Rattle.put_records.proofs.Lengths.{length_counted}
-use Rattle.encode.proofs.Sizes.{reference_size}
+use Rattle.put_records.proofs.Lengths.{length_counted, reference_size}
 use Rattle.roundtrip.proofs.Blocks.{reference_inverse, block_inverse}
 use Rattle.roundtrip.proofs.Commits.{commit_data_inverse}
 use Rattle.roundtrip.proofs.Wholes.{record_bytes, list_bytes}
 use Rattle.encode_blocks.specs.Whole.{whole, is_whole, laid_out}
 use Rattle.encode_blocks.proofs.Wholes.{whole_some}
 use Rattle.encode_commits.specs.Commits.{own_block_with, commit_data_with, commit_with}
-
--- the test of a block, by the answer of its decoder
-module _ (s : List ℕ) {r : DecodedBlock} (h : r ≡ block_answer 0 (block s 0)) where
-  pub no_block_lem : r.ok ≡ false → false ≡ is_whole block s
-  unfolding is_whole answer
-  no_block_lem t = rw (found_none no_block _ (λ r. r.ok) (λ b e. refl) (block s 0) h t)
-
-  pub block_ends : r.ok ≡ true → eqb r.end (length s) ≡ is_whole block s
-  unfolding is_whole answer
-  block_ends t = rw (found_some no_block _ (λ r. r.ok) refl (λ r. r.end) (λ b e. refl) (block s 0) h t).1
 
 pub own_block_laid : (n : ℕ) (s : List ℕ) {test : Bool} → test ≡ is_whole block s → test ≡ true → AllBytes s
     → laid_out (own_block_with n) (whole block s) ≡ some (le 8 n ++ s)

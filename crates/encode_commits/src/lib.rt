@@ -14,8 +14,12 @@ ghost use Rattle.encode.specs.Encoding.{Encodes};
 ghost use Rattle.encode_blocks.specs.Whole.{whole, is_whole, laid_out};
 ghost use Rattle.encode_commits.specs.Commits.{own_block_with, commit_data_with, commit_with};
 
-use bincode::End;
-use encode::Encoded;
+use bincode::Decode;
+use blocks::StatementBlock;
+use commits::CommitData;
+use encode::EncodeError;
+use encode_blocks::are_all;
+use put_records::Encode;
 use types::BlockReference;
 use wal_position::WalPosition;
 
@@ -23,35 +27,29 @@ use wal_position::WalPosition;
 fn is_block(s: &[u8]) -> bool
     ensures { result ≡ is_whole block s.now }
 {
-    let b = blocks::decode_block(s, 0);
-    if !b.ok {
-        return false;
-    }
-    b.end == s.len()
-}
-
-// Whether `s` is n elements of a commit's list and nothing else.
-fn are_commits(s: &[u8], n: u64) -> bool
-    ensures { result ≡ is_whole (many commit_data n) s.now }
-{
-    let End::At(end) = commits::past_commits(s, 0, n) else {
+    let Some((_, end)) = StatementBlock::decode(s, 0) else {
         return false;
     };
     end == s.len()
 }
 
 // An own block, of the block's bytes: the next entry stands before them as a count does.
-pub fn encode_own_block(out: &mut [u8], at: usize, next_entry: WalPosition, bytes: &[u8]) -> Encoded
+pub fn encode_own_block(
+    out: &mut [u8],
+    at: usize,
+    next_entry: WalPosition,
+    bytes: &[u8],
+) -> Result<usize, EncodeError>
     ensures { Encodes out.old at
         (laid_out (own_block_with next_entry.0) (whole block bytes.now)) result out.new }
 {
     if !is_block(bytes) {
-        return Encoded::Malformed;
+        return Err(EncodeError::Malformed);
     }
     if !encode::has_room(out.len(), at, 8 + bytes.len()) {
-        return Encoded::NoRoom;
+        return Err(EncodeError::NoRoom);
     }
-    Encoded::End(put_records::put_counted(out, at, next_entry.0, bytes))
+    Ok(put_records::put_counted(out, at, next_entry.0, bytes))
 }
 
 // A leader and its sub-dag: an element of a commit's list.
@@ -61,34 +59,40 @@ pub fn encode_commit_data(
     leader: BlockReference,
     sub_dag: &[u8],
     count: u64,
-) -> Encoded
+) -> Result<usize, EncodeError>
     ensures { Encodes out.old at
         (laid_out (commit_data_with leader) (whole (many reference count) sub_dag.now)) result
         out.new }
 {
-    if !encode_blocks::are_references(sub_dag, count) {
-        return Encoded::Malformed;
+    if !are_all::<BlockReference>(sub_dag, count) {
+        return Err(EncodeError::Malformed);
     }
     if !encode::has_room(out.len(), at, 64 + sub_dag.len()) {
-        return Encoded::NoRoom;
+        return Err(EncodeError::NoRoom);
     }
-    let p = put_records::put_reference(out, at, leader);
-    Encoded::End(put_records::put_counted(out, p, count, sub_dag))
+    let p = leader.put(out, at);
+    Ok(put_records::put_counted(out, p, count, sub_dag))
 }
 
 // A commit: the elements of its list, and the committed state.
-pub fn encode_commit(out: &mut [u8], at: usize, commits: &[u8], count: u64, state: &[u8]) -> Encoded
+pub fn encode_commit(
+    out: &mut [u8],
+    at: usize,
+    commits: &[u8],
+    count: u64,
+    state: &[u8],
+) -> Result<usize, EncodeError>
     ensures { Encodes out.old at
         (laid_out (commit_with state.now) (whole (many commit_data count) commits.now)) result
         out.new }
 {
-    if !are_commits(commits, count) {
-        return Encoded::Malformed;
+    if !are_all::<CommitData>(commits, count) {
+        return Err(EncodeError::Malformed);
     }
     let n = state.len();
     if !encode_blocks::has_room_for(out.len(), at, 16, commits.len(), n) {
-        return Encoded::NoRoom;
+        return Err(EncodeError::NoRoom);
     }
     let p = put_records::put_counted(out, at, count, commits);
-    Encoded::End(put_records::put_counted(out, p, n as u64, state))
+    Ok(put_records::put_counted(out, p, n as u64, state))
 }

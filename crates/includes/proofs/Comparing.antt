@@ -1,65 +1,41 @@
--- References compared, field by field and byte by byte. Assumes nothing.
-use mathlib.Core.Path.{◌≡◌, refl, sym, ap, ap₂, ◌∙◌}
-use mathlib.Core.Bool.{true, false}
+-- References compared: `==` answers `same`, which decides equality. Assumes nothing.
+use mathlib.Core.Path.{◌≡◌, refl, ap, ap₂, ◌∙◌}
+use mathlib.Core.Bool.{Bool, true, false, ◌&&◌}
 use mathlib.Core.List.{List, [], ◌∷◌}
-use Prim.Native.Nat.{ℕ, suc, ◌+◌, ◌≤◌, ◌<◌}
-use native.Mathlib.Numerals.{add-one}
-use native.Mathlib.Omega.{arith}
+use Prim.Native.Nat.{ℕ}
 use lib.Dec.{eqb}
-use lib.ListN.{length, drop, get_or, drop_of_length-le}
-use lib.Seq.{drop-cons}
-use borrow.Author.Tests.{eqb-true, eq-eqb, ne_eqb}
+use lib.Pointwise.{pointwise}
+use borrow.Author.Tests.{eqb-true, eq-eqb}
 use Rattle.laws.specs.Pick.{pick}
 use Rattle.types.specs.declared.BlockReference.{BlockReference}
 use Rattle.includes.specs.References.{same_bytes, same}
 use Rattle.includes.proofs.Tests.{both, both_hold}
 
--- ---- The loop: the bytes before i are the same, and what is left decides
+-- ---- What `==` answers
 
-pub record Comparing (a b : List ℕ) (i : ℕ) : Type 0 where
-  pub within : i ≤ 32
-  left : same_bytes a b ≡ same_bytes (drop i a) (drop i b)
+and_picks : (x : Bool) {y z : Bool} → y ≡ z → (x && y) ≡ pick x z false
+unfolding pick
+and_picks true h = h
+and_picks false h = refl
 
-pub comparing_start : (a b : List ℕ) → Comparing a b 0
-comparing_start a b = record { within = omega arith; left = refl }
+bytes_compared : (a b : List ℕ) → pointwise eqb a b ≡ same_bytes a b
+unfolding same_bytes
+bytes_compared [] [] = refl
+bytes_compared [] (y ∷ b) = refl
+bytes_compared (x ∷ a) [] = refl
+bytes_compared (x ∷ a) (y ∷ b) = and_picks (eqb x y) (bytes_compared a b)
 
-module _ {a b : List ℕ} {i : ℕ} (h : Comparing a b i) (long : length a ≡ 32) (too : length b ≡ 32) where
-  module _ (more : i < 32) where
-    heads : same_bytes a b ≡ pick (eqb (get_or a i 0) (get_or b i 0)) (same_bytes (drop (suc i) a) (drop (suc i) b)) false
-    unfolding same_bytes
-    heads =
-        let in_a : i < length a = omega arith in
-        let in_b : i < length b = omega arith in
-        h.left ∙ rw (drop-cons a i 0, drop-cons b i 0)
+exchanged : (x y z : Bool) → (x && (y && z)) ≡ pick y (pick x z false) false
+unfolding pick
+exchanged true true z = refl
+exchanged true false z = refl
+exchanged false true z = refl
+exchanged false false z = refl
 
-    pub comparing_differs : (get_or a i 0 ≡ get_or b i 0 → ⊥) → false ≡ same_bytes a b
-    unfolding pick
-    comparing_differs n = sym (heads ∙ rw (ne_eqb (get_or a i 0) (get_or b i 0) n))
-
-    pub comparing_next : get_or a i 0 ≡ get_or b i 0 → Comparing a b (i + 1)
-    unfolding pick
-    comparing_next e = record { within = omega arith; left = rw add-one (heads ∙ rw (eq-eqb (get_or a i 0) (get_or b i 0) e)) }
-
-  pub comparing_done : 32 ≤ i → true ≡ same_bytes a b
-  unfolding same_bytes
-  comparing_done all =
-      sym (h.left ∙ rw (drop_of_length-le a {i = i} (omega arith), drop_of_length-le b {i = i} (omega arith)))
-
--- ---- The fields
-
-module _ (a b : BlockReference) where
-  pub round_differs : (a.round ≡ b.round → ⊥) → false ≡ same a b
-  unfolding same pick
-  round_differs n = sym (rw (ne_eqb a.round b.round n))
-
-  module _ (r : a.round ≡ b.round) where
-    pub authority_differs : (a.authority ≡ b.authority → ⊥) → false ≡ same a b
-    unfolding same pick
-    authority_differs n = sym (rw (eq-eqb a.round b.round r, ne_eqb a.authority b.authority n))
-
-    pub digest_decides : a.authority ≡ b.authority → same_bytes a.digest.0 b.digest.0 ≡ same a b
-    unfolding same pick
-    digest_decides e = sym (rw (eq-eqb a.round b.round r, eq-eqb a.authority b.authority e))
+-- the derived test compares authorities before rounds
+pub compared : (a b : BlockReference) → (eqb a.authority b.authority && (eqb a.round b.round && pointwise eqb a.digest.0 b.digest.0)) ≡ same a b
+unfolding same
+compared a b = rw (bytes_compared a.digest.0 b.digest.0) (exchanged (eqb a.authority b.authority) (eqb a.round b.round) _)
 
 -- ---- The test decides equality
 

@@ -14,10 +14,7 @@ use Rattle.laws.proofs.Parses.{got_value, then_found, many_length}
 use Rattle.bincode.specs.Bincode.{bool, vec}
 use Rattle.crypto.specs.Records.{signature}
 use Rattle.types.specs.declared.BlockReference.{BlockReference}
-use Rattle.types.specs.declared.DecodedReference.{DecodedReference}
 use Rattle.types.specs.Records.{reference, statement, BlockValue, block}
-use Rattle.types.specs.Answers.{zero_reference, reference_answer}
-use Rattle.types.proofs.Found.{reference_told}
 use Rattle.types.proofs.References.{reference_width, include_at}
 use Rattle.includes.specs.References.{same, among}
 use Rattle.includes.specs.Includes.{includes_of, Parses}
@@ -77,24 +74,24 @@ module _ {s : List ℕ} {x : BlockReference} {n at i : ℕ} (h : Including s x n
   long : length (includes_of s) ≡ n
   long = many_length reference s n at h.these.1
 
-  module _ (more : i < n) {d : DecodedReference} (is : d ≡ reference_answer (reference s (at + 56 * i))) where
-    ith : reference s (at + 56 * i) ≡ got (get_or (includes_of s) i zero_reference) (at + 56 * (i + 1))
-    ith = include_at s i n at h.these.1 zero_reference more
+  module _ (more : i < n) where
+    ith : (d : BlockReference) → reference s (at + 56 * i) ≡ got (get_or (includes_of s) i d) (at + 56 * (i + 1))
+    ith d = include_at s i n at h.these.1 d more
 
-    pub including_there : d.ok ≡ false → ⊥
-    including_there t =
-        let never : bad ≡ got (get_or (includes_of s) i zero_reference) (at + 56 * (i + 1)) = sym (reference_told _ is t) ∙ ith in
+    pub including_there : (d : BlockReference) → reference s (at + 56 * i) ≡ bad → ⊥
+    including_there d none =
+        let never : bad ≡ got (get_or (includes_of s) i d) (at + 56 * (i + 1)) = sym none ∙ ith d in
         let z : ◌≡◌ {A = ℕ} 0 1 = cc in
         omega arith
 
-    module _ (ok : d.ok ≡ true) {t : Bool} (test : t ≡ same x d.reference) where
+    module _ {d : BlockReference} {e : ℕ} (is : reference s (at + 56 * i) ≡ got d e) {t : Bool} (test : t ≡ same x d) where
       first : among x (includes_of s) ≡ pick t true (among x (drop (suc i) (includes_of s)))
       unfolding among
       first =
           let there : i < length (includes_of s) = omega (arith, long) in
-          let this : d.reference ≡ get_or (includes_of s) i zero_reference = got_value (sym (reference_told _ is ok) ∙ ith) in
+          let this : d ≡ get_or (includes_of s) i d = got_value (sym is ∙ ith d) in
           h.left
-          ∙ ap (among x) (drop-cons (includes_of s) i zero_reference there)
+          ∙ ap (among x) (drop-cons (includes_of s) i d there)
           ∙ ap (λ (t : Bool). pick t true (among x (drop (suc i) (includes_of s)))) (sym (test ∙ ap (same x) this))
 
       pub including_found : t ≡ true → true ≡ among x (includes_of s)

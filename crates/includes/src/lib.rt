@@ -1,61 +1,31 @@
 // Ported from types.rs of mahi-mahi-consensus, Copyright (c) Mysten Labs, Inc., Apache-2.0.
 // Changed: written anew in Rattle, with contracts. NOTICE says what was carried across and what was changed.
 
-// References compared, and the includes of a block's bytes (types.rs).
+// The includes of a block's bytes (types.rs).
 #![tactic(auto)]
 
 ghost use Rattle.std.specs.Prelude.{◌≡◌};
-ghost use Rattle.includes.specs.References.{same_bytes, same, among};
+ghost use Rattle.includes.specs.References.{among};
 ghost use Rattle.includes.specs.Includes.{includes_of, Parses};
 
-use bincode::Number;
-use types::BlockReference;
-
-fn same_digest(a: [u8; 32], b: [u8; 32]) -> bool
-    ensures { result ≡ same_bytes a b }
-{
-    let mut i = 0;
-    while i < 32 {
-        if a[i] != b[i] {
-            return false;
-        }
-        i += 1;
-    }
-    true
-}
-
-pub fn same_reference(a: BlockReference, b: BlockReference) -> bool
-    ensures { result ≡ same a b }
-{
-    if a.round != b.round {
-        return false;
-    }
-    if a.authority != b.authority {
-        return false;
-    }
-    let d = a.digest.0;
-    let e = b.digest.0;
-    same_digest(d, e)
-}
+use bincode::Decode;
+use types::{BlockReference, include_at};
 
 // Whether the block that these bytes begin with includes the reference.
 pub fn includes(block: &[u8], reference: BlockReference) -> bool
     requires { Parses block.now }
     ensures { result ≡ among reference (includes_of block.now) }
 {
-    let Number::Got(n, at) = bincode::decode_u64(block, 56) else {
+    let Some((n, at)) = u64::decode(block, 56) else {
         return false;
     };
-    let mut i = 0;
-    while i < n {
-        let d = types::include_at(block, at, i as usize);
-        if !d.ok {
+    for i in 0..n {
+        let Some((include, _)) = include_at(block, at, i as usize) else {
             return false;
-        }
-        if same_reference(reference, d.reference) {
+        };
+        if reference == include {
             return true;
         }
-        i += 1;
     }
     false
 }

@@ -1,12 +1,11 @@
 -- What a pending entry stands for: core.rs has a block that is included, by its reference, or a payload of statements.
-use Rattle.std.specs.Prelude.{List, ℕ, eqb, length}
+use Rattle.std.specs.Prelude.{List, ℕ, eqb, length, Option, Some, None}
 use Rattle.laws.specs.Pick.{pick}
 use Rattle.laws.specs.Parse.{Res, bad, got, then, answer}
 use Rattle.types.specs.declared.BlockReference.{BlockReference}
 use Rattle.types.specs.Records.{StatementValue, block, payload}
-use Rattle.types.specs.Answers.{zero_reference}
-use Rattle.meta_statement.specs.declared.MetaKind.TheVariants.{Nothing, Include, Payload}
 use Rattle.meta_statement.specs.declared.MetaStatement.{MetaStatement}
+use Rattle.meta_statement.specs.declared.MetaStatement.TheVariants.{Include, Payload}
 
 pub data MetaValue : Type 0 where
   include : BlockReference → MetaValue
@@ -23,13 +22,10 @@ stated s = then (payload s 0) (λ ss e. got (statements ss) e)
 unfoldable pub meta_statement : ℕ → List ℕ → Res MetaValue
 meta_statement tag s = pick (eqb tag 1) (included s) (pick (eqb tag 2) (stated s) bad)
 
--- the answer: what a kind does not have is zero. The first statement stands behind the count of 8 bytes.
-abbrev pub no_meta : MetaStatement
-no_meta = record { kind = Nothing; reference = zero_reference; statements = record { at = 0; left = 0 } }
+-- the answer: the first statement stands behind the count of 8 bytes
+abbrev pub meta_of : MetaValue → MetaStatement
+meta_of (include r) = Include r
+meta_of (statements ss) = Payload (record { at = 8; left = length ss })
 
-unfoldable pub meta_of : MetaValue → MetaStatement
-meta_of (include r) = record { kind = Include; reference = r; statements = record { at = 0; left = 0 } }
-meta_of (statements ss) = record { kind = Payload; reference = zero_reference; statements = record { at = 8; left = length ss } }
-
-abbrev pub meta_answer : Res MetaValue → MetaStatement
-meta_answer = answer no_meta (λ v e. meta_of v)
+abbrev pub meta_answer : Res MetaValue → Option MetaStatement
+meta_answer = answer None (λ v e. Some (meta_of v))

@@ -1,11 +1,10 @@
 -- What is proved of the list. Document 02, Req 13: "Prove that the list is complete, ordered and without repeats, and that each, encoded
 -- again, gives its own bytes."
-use Rattle.std.specs.Prelude.{◌≡◌, ℕ, ◌≤◌, ◌<◌, length, get_or}
+use Rattle.std.specs.Prelude.{◌≡◌, ℕ, ◌≤◌, ◌<◌, length, get_or, Result, Ok}
 use mathlib.Core.List.{List, [], Memᴰ as In}
 use Rattle.std.proofs.Math.Option.{some}
 use Rattle.laws.specs.Bytes.{written}
-use Rattle.encode.specs.declared.Encoded.{Encoded}
-use Rattle.encode.specs.declared.Encoded.TheVariants.{End}
+use Rattle.encode.specs.declared.EncodeError.{EncodeError}
 use Rattle.payloads.specs.Small.{SmallPayload, Before, small_payloads, small_text, ListSmall, encoded_again, PayloadAgain}
 
 -- l has every small payload and nothing else, each before all that stand behind it
@@ -18,8 +17,8 @@ pub record Lists (l : List (List ℕ)) : Type 0 where
 -- there
 abbrev pub EncodesToItself : List ℕ → Type 0
 EncodesToItself s =
-    (out : List ℕ) (r : Encoded) (after : List ℕ) → length s ≤ length out → PayloadAgain s out r after
-    → (r ≡ End (length s)) × (after ≡ written out 0 s)
+    (out : List ℕ) (r : Result ℕ EncodeError) (after : List ℕ) → length s ≤ length out → PayloadAgain s out r after
+    → (r ≡ Ok (length s)) × (after ≡ written out 0 s)
 
 pub record Request13 : Type 0 where
   -- "each payload of at most 21 bytes that decodes without trailing bytes, by length and then by unsigned byte order"; "complete, ordered"

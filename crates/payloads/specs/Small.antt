@@ -1,7 +1,7 @@
 -- The small payloads: their order, their list, their text, and what each is encoded to again. Document 02, Req 13: "A program writes, in
 -- lower-case hex, one a line, each payload of at most 21 bytes that decodes without trailing bytes, by length and then by unsigned byte
 -- order: 258 in all."
-use Rattle.std.specs.Prelude.{◌≡◌, ◌⊎◌, List, [], ◌∷◌, ◌++◌, map, ℕ, ◌≤◌, ◌<◌, length}
+use Rattle.std.specs.Prelude.{◌≡◌, ◌⊎◌, List, [], ◌∷◌, ◌++◌, map, ℕ, ◌≤◌, ◌<◌, length, Result}
 use Rattle.std.proofs.Math.Option.{Option, none, some}
 use Rattle.laws.specs.Ascii.{line_feed}
 use Rattle.laws.specs.Bytes.{AllBytes}
@@ -10,9 +10,9 @@ use Rattle.laws.specs.Parse.{got, answer, joined}
 use Rattle.text.specs.Digits.{hex_bytes}
 use Rattle.text.specs.Put.{Put}
 use Rattle.types.specs.Records.{StatementValue, share, payload, payload_bytes}
-use Rattle.encode.specs.declared.Encoded.{Encoded}
+use Rattle.encode.specs.declared.EncodeError.{EncodeError}
 use Rattle.encode.specs.Encoding.{Encodes}
-use Rattle.rows.specs.declared.Order.TheVariants.{Below}
+use Rattle.std.specs.declared.cmp.Ordering.TheVariants.{Less}
 use Rattle.rows.specs.Rows.{compared}
 
 -- "payload of at most 21 bytes that decodes without trailing bytes": bytes all of which the parser of a payload takes, from the first to
@@ -26,7 +26,7 @@ pub record SmallPayload (s : List ℕ) : Type 0 where
 -- "by length and then by unsigned byte order": the shorter comes first, and of two that have the same length the one with the lower byte
 -- where they first differ
 abbrev pub Before : List ℕ → List ℕ → Type 0
-Before s t = (length s < length t) ⊎ ((length s ≡ length t) × (compared s t ≡ Below))
+Before s t = (length s < length t) ⊎ ((length s ≡ length t) × (compared s t ≡ Less))
 
 -- ---- The list
 
@@ -60,5 +60,5 @@ unfoldable pub encoded_again : List ℕ → Option (List ℕ)
 encoded_again s = answer none (λ statements e. some (payload_bytes statements)) (payload s 0)
 
 -- what `payload_again` is held to, of the bytes s: the answer r, and what a buffer that held `out` holds after the call
-abbrev pub PayloadAgain : List ℕ → List ℕ → Encoded → List ℕ → Type 0
+abbrev pub PayloadAgain : List ℕ → List ℕ → Result ℕ EncodeError → List ℕ → Type 0
 PayloadAgain s out r after = Encodes out 0 (encoded_again s) r after

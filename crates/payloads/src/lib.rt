@@ -10,8 +10,9 @@ ghost use Rattle.types.specs.Records.{statement};
 ghost use Rattle.encode_blocks.specs.Whole.{is_whole};
 ghost use Rattle.payloads.specs.Small.{share_payload, small_payloads, payload_line, ListSmall, PayloadAgain};
 
-use bincode::Part;
-use encode::Encoded;
+use bincode::decode_list;
+use encode::EncodeError;
+use statements::BaseStatement;
 
 // The most bytes of a small payload, and of its statements, which stand behind their count.
 const PAYLOAD_MAX: usize = 21;
@@ -23,13 +24,13 @@ const COUNT: u64 = 258;
 
 // Decodes the payload at the start of s and encodes it again, at the start of out. Bytes behind the
 // payload are ignored, as its decoder ignores them.
-pub fn payload_again(s: &[u8], out: &mut [u8]) -> Encoded
+pub fn payload_again(s: &[u8], out: &mut [u8]) -> Result<usize, EncodeError>
     ensures { PayloadAgain s.now out.old result out.new }
 {
-    let Part::Got(start, count, end) = commits::decode_payload(s, 0) else {
-        return Encoded::Malformed;
+    let Some((statements, end)) = decode_list::<BaseStatement>(s, 0) else {
+        return Err(EncodeError::Malformed);
     };
-    encode_blocks::encode_payload(out, 0, &s[start..end], count as u64)
+    encode_blocks::encode_payload(out, 0, &s[statements.at..end], statements.left as u64)
 }
 
 // Puts the line of the payload of some encoded statements.
@@ -40,8 +41,8 @@ fn put_payload(out: &mut [u8], at: usize, statements: &[u8], count: u64) -> usiz
         out.new result }
 {
     let mut payload = [0u8; PAYLOAD_MAX];
-    // They are whole statements and there is room, so that the encoder answers End.
-    let Encoded::End(end) = encode_blocks::encode_payload(&mut payload, 0, statements, count) else {
+    // They are whole statements and there is room, so that the encoder answers Ok.
+    let Ok(end) = encode_blocks::encode_payload(&mut payload, 0, statements, count) else {
         return at;
     };
     let next = text::put_hex_bytes(out, at, &payload[..end]);
@@ -54,8 +55,8 @@ fn put_share(out: &mut [u8], at: usize, bytes: &[u8]) -> usize
     ensures { Put at (payload_line (share_payload bytes.now)) out.old out.new result }
 {
     let mut statement = [0u8; STATEMENTS_MAX];
-    // There is room, so that the encoder answers End.
-    let Encoded::End(end) = encode::encode_share(&mut statement, 0, bytes) else {
+    // There is room, so that the encoder answers Ok.
+    let Ok(end) = encode::encode_share(&mut statement, 0, bytes) else {
         return at;
     };
     put_payload(out, at, &statement[..end], 1)
@@ -79,10 +80,8 @@ pub fn list_small(out: &mut [u8]) -> usize
     ensures { ListSmall out.old result out.new }
 {
     let mut at = 0;
-    let mut i = 0;
-    while i < COUNT {
+    for i in 0..COUNT {
         at = put_small(out, at, i);
-        i += 1;
     }
     at
 }

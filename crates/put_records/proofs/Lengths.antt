@@ -64,3 +64,17 @@ pub length_reject_other : (l : TransactionLocator) → length (vote_bytes (rejec
 unfolding vote_bytes option_bytes
 length_reject_other l =
     omega (arith, length-append (le 4 1) (bool_bytes true ++ locator_bytes l), length-append (bool_bytes true) (locator_bytes l), length_le 4 1, length_bool true)
+
+-- ---- Records whose digests have their 32 bytes
+
+pub reference_size : (r : BlockReference) → length r.digest.0 ≡ 32 → length (reference_bytes r) ≡ 56
+reference_size r h = omega (arith, length_reference r, length_digest r.digest)
+
+pub locator_size : (l : TransactionLocator) → length l.block.digest.0 ≡ 32 → length (locator_bytes l) ≡ 64
+locator_size l h = omega (arith, length_locator l, reference_size l.block h)
+
+pub range_size : (r : TransactionLocatorRange) → length r.block.digest.0 ≡ 32 → length (range_bytes r) ≡ 72
+range_size r h = omega (arith, length_range r, reference_size r.block h)
+
+pub reject_other_size : (l : TransactionLocator) → length l.block.digest.0 ≡ 32 → length (vote_bytes (reject (some l))) ≡ 69
+reject_other_size l h = omega (arith, length_reject_other l, locator_size l h)

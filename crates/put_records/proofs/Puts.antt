@@ -5,6 +5,7 @@ use mathlib.Core.List.{List, ◌++◌}
 use Prim.Native.Nat.{ℕ, ◌+◌, ◌≤◌}
 use native.Mathlib.Omega.{arith}
 use lib.ListN.{length, length-append, set}
+use mir.Val.{bool_byte}
 use Rattle.laws.specs.Pick.{pick}
 use Rattle.laws.specs.Bytes.{written, le}
 use Rattle.laws.proofs.Written.{then_written, written_one}
@@ -28,11 +29,7 @@ put_number w x h n = record { bytes = h; end = omega (arith, length_le w x) }
 pub put_bytes : {s t v : List ℕ} {p : ℕ} → t ≡ written s p v → Put s p v t (p + length v)
 put_bytes h = record { bytes = h; end = refl }
 
--- a bool, by what it was tested for
-pub put_flag : {s : List ℕ} {p : ℕ} {b : Bool} (t : Bool) → b ≡ t → p + length (bool_bytes b) ≤ length s
-    → Put s p (bool_bytes b) (set s p (pick t 1 0)) (p + 1)
+pub put_flag : {s : List ℕ} {p : ℕ} (b : Bool) → p + length (bool_bytes b) ≤ length s → Put s p (bool_bytes b) (set s p (bool_byte b)) (p + 1)
 unfolding bool_bytes pick le
-put_flag {s} {p} {b} true e h =
-    rw e (record { bytes = written_one s p 1 (omega (arith, length_bool b)); end = refl })
-put_flag {s} {p} {b} false e h =
-    rw e (record { bytes = written_one s p 0 (omega (arith, length_bool b)); end = refl })
+put_flag {s} {p} true h = record { bytes = written_one s p 1 (omega (arith, length_bool true)); end = refl }
+put_flag {s} {p} false h = record { bytes = written_one s p 0 (omega (arith, length_bool false)); end = refl }

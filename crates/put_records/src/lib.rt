@@ -2,17 +2,35 @@
 // asks that the record fits: its callers have tested that.
 #![tactic(auto)]
 
-ghost use Rattle.std.specs.Prelude.{◌++◌, ◌+◌, ◌≤◌, length};
+ghost use Rattle.std.specs.Prelude.{◌≡◌, List, ℕ, ◌++◌, ◌+◌, ◌^◌, ◌≤◌, ◌<◌, length};
 ghost use Rattle.laws.specs.Bytes.{le};
-ghost use Rattle.bincode.specs.Bincode.{bool_bytes};
+ghost use Rattle.bincode.specs.Bincode.{bool_bytes, byte_string_bytes};
 ghost use Rattle.crypto.specs.Records.{digest_bytes, signature_bytes};
 ghost use Rattle.types.specs.Records.{reference_bytes, locator_bytes, range_bytes, vote_bytes};
 ghost use Rattle.put_records.specs.Put.{Put};
 ghost use Rattle.put_records.specs.Votes.{vote_value};
 
-use crypto::{BlockDigest, SignatureBytes};
-use types::{BlockReference, TransactionLocator, TransactionLocatorRange};
-use votes::{Vote, VoteKind};
+use crypto::{BLOCK_DIGEST_SIZE, BlockDigest, SIGNATURE_SIZE, SignatureBytes};
+use types::{BlockReference, REFERENCE_SIZE, TransactionLocator, TransactionLocatorRange};
+use votes::Vote;
+
+pub const LOCATOR_SIZE: usize = 64;
+
+pub const RANGE_SIZE: usize = 72;
+
+// What is laid out in bytes, at most 65,535 of them.
+pub trait Encode: Copy {
+    ghost layout: { Self → List ℕ };
+
+    fn size(self) -> usize
+        ensures counted { result ≡ length (layout self) }
+        ensures small { result < 2 ^ 16 };
+
+    // The place behind the record.
+    fn put(self, out: &mut [u8], at: usize) -> usize
+        requires { at + length (layout self) ≤ length out.old }
+        ensures { Put out.old at (layout self) out.new result };
+}
 
 // A count and the bytes behind it.
 pub fn put_counted(out: &mut [u8], at: usize, n: u64, bytes: &[u8]) -> usize
@@ -24,81 +42,115 @@ pub fn put_counted(out: &mut [u8], at: usize, n: u64, bytes: &[u8]) -> usize
     at + 8 + bytes.len()
 }
 
-pub fn put_bool(out: &mut [u8], at: usize, b: bool) -> usize
-    requires { at + length (bool_bytes b) ≤ length out.old }
-    ensures { Put out.old at (bool_bytes b) out.new result }
-{
-    if b {
-        out[at] = 1;
-        return at + 1;
+impl Encode for bool {
+    ghost layout = { bool_bytes };
+
+    fn size(self) -> usize {
+        1
     }
-    out[at] = 0;
-    at + 1
+
+    fn put(self, out: &mut [u8], at: usize) -> usize {
+        out[at] = u8::from(self);
+        at + 1
+    }
 }
 
-pub fn put_digest(out: &mut [u8], at: usize, digest: BlockDigest) -> usize
-    requires { at + length (digest_bytes digest) ≤ length out.old }
-    ensures { Put out.old at (digest_bytes digest) out.new result }
-{
-    let bytes = digest.0;
-    put_counted(out, at, 32, &bytes)
+// Kept: two impls for a digest and a signature; both are no more than a call of put_counted.
+impl Encode for BlockDigest {
+    ghost layout = { digest_bytes };
+
+    fn size(self) -> usize {
+        8 + BLOCK_DIGEST_SIZE
+    }
+
+    fn put(self, out: &mut [u8], at: usize) -> usize {
+        let bytes = self.0;
+        put_counted(out, at, 32, &bytes)
+    }
 }
 
-pub fn put_signature(out: &mut [u8], at: usize, signature: SignatureBytes) -> usize
-    requires { at + length (signature_bytes signature) ≤ length out.old }
-    ensures { Put out.old at (signature_bytes signature) out.new result }
-{
-    let bytes = signature.0;
-    put_counted(out, at, 64, &bytes)
+impl Encode for SignatureBytes {
+    ghost layout = { signature_bytes };
+
+    fn size(self) -> usize {
+        8 + SIGNATURE_SIZE
+    }
+
+    fn put(self, out: &mut [u8], at: usize) -> usize {
+        let bytes = self.0;
+        put_counted(out, at, 64, &bytes)
+    }
 }
 
-pub fn put_reference(out: &mut [u8], at: usize, reference: BlockReference) -> usize
-    requires { at + length (reference_bytes reference) ≤ length out.old }
-    ensures { Put out.old at (reference_bytes reference) out.new result }
-{
-    fields::put_u64(out, at, reference.authority);
-    fields::put_u64(out, at + 8, reference.round);
-    put_digest(out, at + 16, reference.digest)
+impl Encode for BlockReference {
+    ghost layout = { reference_bytes };
+
+    fn size(self) -> usize {
+        REFERENCE_SIZE
+    }
+
+    fn put(self, out: &mut [u8], at: usize) -> usize {
+        fields::put_u64(out, at, self.authority);
+        fields::put_u64(out, at + 8, self.round);
+        self.digest.put(out, at + 16)
+    }
 }
 
-pub fn put_locator(out: &mut [u8], at: usize, locator: TransactionLocator) -> usize
-    requires { at + length (locator_bytes locator) ≤ length out.old }
-    ensures { Put out.old at (locator_bytes locator) out.new result }
-{
-    let p = put_reference(out, at, locator.block);
-    fields::put_u64(out, p, locator.offset);
-    p + 8
+impl Encode for TransactionLocator {
+    ghost layout = { locator_bytes };
+
+    fn size(self) -> usize {
+        LOCATOR_SIZE
+    }
+
+    fn put(self, out: &mut [u8], at: usize) -> usize {
+        let p = self.block.put(out, at);
+        fields::put_u64(out, p, self.offset);
+        p + 8
+    }
 }
 
-pub fn put_range(out: &mut [u8], at: usize, range: TransactionLocatorRange) -> usize
-    requires { at + length (range_bytes range) ≤ length out.old }
-    ensures { Put out.old at (range_bytes range) out.new result }
-{
-    let p = put_reference(out, at, range.block);
-    fields::put_u64(out, p, range.offset_start_inclusive);
-    fields::put_u64(out, p + 8, range.offset_end_exclusive);
-    p + 16
+impl Encode for TransactionLocatorRange {
+    ghost layout = { range_bytes };
+
+    fn size(self) -> usize {
+        RANGE_SIZE
+    }
+
+    fn put(self, out: &mut [u8], at: usize) -> usize {
+        let p = self.block.put(out, at);
+        fields::put_u64(out, p, self.offset_start_inclusive);
+        fields::put_u64(out, p + 8, self.offset_end_exclusive);
+        p + 16
+    }
 }
 
-pub fn put_vote(out: &mut [u8], at: usize, vote: Vote) -> usize
-    requires { at + length (vote_bytes (vote_value vote)) ≤ length out.old }
-    ensures { Put out.old at (vote_bytes (vote_value vote)) out.new result }
-{
-    let kind = vote.kind;
-    match kind {
-        VoteKind::Accept => {
-            fields::put_u32(out, at, 0);
-            at + 4
+impl Encode for Vote {
+    ghost layout = { λ v. vote_bytes (vote_value v) };
+
+    fn size(self) -> usize {
+        match self {
+            Vote::Accept => 4,
+            Vote::Reject(None) => 5,
+            Vote::Reject(Some(_)) => 5 + LOCATOR_SIZE,
         }
-        VoteKind::Reject => {
-            fields::put_u32(out, at, 1);
-            put_bool(out, at + 4, false)
-        }
-        VoteKind::RejectOther => {
-            fields::put_u32(out, at, 1);
-            let tag = at + 4;
-            let p = put_bool(out, tag, true);
-            put_locator(out, p, vote.other)
+    }
+
+    fn put(self, out: &mut [u8], at: usize) -> usize {
+        match self {
+            Vote::Accept => {
+                fields::put_u32(out, at, 0);
+                at + 4
+            }
+            Vote::Reject(None) => {
+                fields::put_u32(out, at, 1);
+                false.put(out, at + 4)
+            }
+            Vote::Reject(Some(other)) => {
+                fields::put_u32(out, at, 1);
+                let p = true.put(out, at + 4);
+                other.put(out, p)
+            }
         }
     }
 }

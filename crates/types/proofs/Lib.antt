@@ -1,3 +1,2 @@
 mod Examples
-pub mod Found
 pub mod References

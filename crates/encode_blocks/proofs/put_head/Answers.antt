@@ -5,8 +5,8 @@ use Rattle.put_records.proofs.Lengths.{length_counted}
 use Rattle.encode_blocks.proofs.Blocks.{head_length}
 use Rattle.encode_blocks.proofs.put_head.Goals as goal
 
-pub put_reference-p-requires : goal.put_reference-p-requires
-put_reference-p-requires c =
+pub put-p-requires : goal.put-p-requires
+put-p-requires c =
     let a = c.args in
     omega (arith, head_length a.block a.includes.now a.statements.now)
 
@@ -16,8 +16,8 @@ put_counted-q-requires c =
     omega (
       arith,
       head_length a.block a.includes.now a.statements.now,
-      c.put_reference-p.ensures.end,
-      c.put_reference-p.auto.out,
+      c.put-p.ensures.end,
+      c.put-p.auto.out,
       c.requires,
     )
 
@@ -29,8 +29,8 @@ put_counted-requires c =
       head_length a.block a.includes.now a.statements.now,
       length_counted a.block.include_count
           a.includes.now,
-      c.put_reference-p.ensures.end,
-      c.put_reference-p.auto.out,
+      c.put-p.ensures.end,
+      c.put-p.auto.out,
       c.put_counted-q.ensures.end,
       c.put_counted-q.auto.out,
       c.requires,
@@ -38,6 +38,6 @@ put_counted-requires c =
 
 pub returns : goal.returns
 returns c =
-    let reference = c.put_reference-p in
+    let reference = c.put-p in
     then_put (then_put reference.ensures c.put_counted-q.ensures (omega (arith, c.requires))) c.put_counted.ensures
     (omega (arith, c.requires))

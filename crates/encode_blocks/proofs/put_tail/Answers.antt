@@ -34,8 +34,8 @@ overflow_add-at-2 c =
       c.requires,
     )
 
-pub put_bool-p-requires : goal.put_bool-p-requires
-put_bool-p-requires c =
+pub put-p-requires : goal.put-p-requires
+put-p-requires c =
     let a = c.args in
     omega (
       arith,
@@ -46,18 +46,18 @@ put_bool-p-requires c =
       c.put_u64-2.auto.s,
     )
 
-pub put_signature-requires : goal.put_signature-requires
-put_signature-requires c =
+pub put-requires : goal.put-requires
+put-requires c =
     let a = c.args in
     omega (
       arith,
       tail_length a.block,
       length_bool a.block.epoch_marker,
       c.requires,
-      c.put_bool-p.ensures.end,
+      c.put-p.ensures.end,
       c.put_u64.auto.s,
       c.put_u64-2.auto.s,
-      c.put_bool-p.auto.out,
+      c.put-p.auto.out,
     )
 
 pub returns : goal.returns
@@ -66,5 +66,5 @@ returns c =
     let low = put_number 8 block.time_low c.put_u64.ensures refl in
     then_put
     (then_put (then_put low (put_number 8 block.time_high c.put_u64-2.ensures (omega arith)) (omega (arith, c.requires)))
-    c.put_bool-p.ensures (omega (arith, c.requires)))
-    c.put_signature.ensures (omega (arith, c.requires))
+    c.put-p.ensures (omega (arith, c.requires)))
+    c.put.ensures (omega (arith, c.requires))

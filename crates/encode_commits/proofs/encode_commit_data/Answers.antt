@@ -17,15 +17,15 @@ use Rattle.encode_blocks.proofs.Wholes.{nothing_laid}
 use Rattle.encode_commits.specs.Commits.{commit_data_with}
 use borrow.Author.Rules.{rules}
 use Rattle.encode_commits.proofs.encode_commit_data.Goals as goal
-use Rattle.encode_commits.proofs.encode_commit_data.Goals.{After-has_room, Else-not-are_references, Start}
+use Rattle.encode_commits.proofs.encode_commit_data.Goals.{After-has_room, Else-not-are_all, Start}
 
 all-32 : (c : Start) → length c.args.leader.digest.0 ≡ 32
 all-32 c = search rules
 
-laid : (c : Else-not-are_references) → (laid_out (commit_data_with c.args.leader) (whole (many reference c.args.count) c.args.sub_dag.now) ≡ some ((reference_bytes c.args.leader ++ (le 8 c.args.count ++ c.args.sub_dag.now))))
+laid : (c : Else-not-are_all) → (laid_out (commit_data_with c.args.leader) (whole (many reference c.args.count) c.args.sub_dag.now) ≡ some ((reference_bytes c.args.leader ++ (le 8 c.args.count ++ c.args.sub_dag.now))))
 laid c =
     let a = c.args in
-    commit_data_laid a.leader a.count a.sub_dag.now c.are_references.ensures c.if-not-are_references.false
+    commit_data_laid a.leader a.count a.sub_dag.now c.are_all.ensures c.if-not-are_all.false
     (λ i. omega (arith, c.shared_slice_known-1.given i))
 
 test : (c : After-has_room) → (λ (there : Bool). Tested c.args.out.now c.args.at ((reference_bytes c.args.leader ++ (le 8 c.args.count ++ c.args.sub_dag.now))) there) c.has_room.result
@@ -33,21 +33,21 @@ test c =
     tested c.args.out.now c.args.at ((reference_bytes c.args.leader ++ (le 8 c.args.count ++ c.args.sub_dag.now))) c.has_room.ensures
     (commit_data_size c.args.leader c.args.count c.args.sub_dag.now ((search rules)))
 
-pub returns-then-not-are_references : goal.returns-then-not-are_references
-returns-then-not-are_references c =
+pub returns-then-not-are_all : goal.returns-then-not-are_all
+returns-then-not-are_all c =
     let a = c.args in
-    rw (nothing_laid (many reference a.count) (commit_data_with a.leader) a.sub_dag.now c.are_references.ensures
-    c.if-not-are_references.true) (malformed a.out.now a.at)
+    rw (nothing_laid (many reference a.count) (commit_data_with a.leader) a.sub_dag.now c.are_all.ensures
+    c.if-not-are_all.true) (malformed a.out.now a.at)
 
 pub returns-then-not-has_room : goal.returns-then-not-has_room
-returns-then-not-has_room c = rw (laid (goal.at.returns-then-not-has_room c).Else-not-are_references) (full (test (goal.at.returns-then-not-has_room c).After-has_room) c.if-not-has_room.true)
+returns-then-not-has_room c = rw (laid (goal.at.returns-then-not-has_room c).Else-not-are_all) (full (test (goal.at.returns-then-not-has_room c).After-has_room) c.if-not-has_room.true)
 
-pub put_reference-p-requires : goal.put_reference-p-requires
-put_reference-p-requires c =
+pub put-p-requires : goal.put-p-requires
+put-p-requires c =
     let a = c.args in
     omega (
       arith,
-      room (test (goal.at.put_reference-p-requires c).After-has_room) c.if-not-has_room.false,
+      room (test (goal.at.put-p-requires c).After-has_room) c.if-not-has_room.false,
       length-append (reference_bytes a.leader)
           (le 8 a.count ++ a.sub_dag.now),
     )
@@ -62,16 +62,16 @@ put_counted-requires c =
       length-append (reference_bytes a.leader)
           (le 8 a.count ++ a.sub_dag.now),
       length_counted a.count a.sub_dag.now,
-      c.put_reference-p.ensures.end,
-      c.put_reference-p.auto.out,
+      c.put-p.ensures.end,
+      c.put-p.auto.out,
     )
 
 pub returns : goal.returns
 returns c =
-    rw (laid (goal.at.returns c).Else-not-are_references)
+    rw (laid (goal.at.returns c).Else-not-are_all)
     (fits (test (goal.at.returns c).After-has_room)
     c.if-not-has_room.false
-    (then_put c.put_reference-p.ensures c.put_counted.ensures
+    (then_put c.put-p.ensures c.put_counted.ensures
     (omega (
       arith,
       room (test (goal.at.returns c).After-has_room)

@@ -1,13 +1,14 @@
 -- `encode_commits::is_block` meets its contract. Assumes nothing.
-use borrow.Author.Tests.{not-true, not-false}
-use Rattle.encode_commits.proofs.Commits.{no_block_lem, block_ends}
+use Rattle.laws.specs.Parse.{answer}
+use Rattle.bincode.proofs.Found.{told_as, told_none}
+use Rattle.types.specs.Records.{block}
+use Rattle.encode_blocks.specs.Whole.{is_whole}
 use Rattle.encode_commits.proofs.is_block.Goals as goal
 
-pub returns-then-not-b : goal.returns-then-not-b
-returns-then-not-b c =
-    no_block_lem c.args.s.now c.decode_block-b.ensures (not-true _ c.if-not-b.true)
+pub returns-in_default : goal.returns-in_default
+unfolding is_whole answer
+returns-in_default c = rw (told_none _ (block c.args.s.now 0) c.in_default.ensures)
 
 pub returns : goal.returns
-returns c =
-    block_ends c.args.s.now c.decode_block-b.ensures
-    (not-false _ c.if-not-b.false)
+unfolding is_whole answer
+returns c = rw (told_as _ (block c.args.s.now 0) c.in-Some.ensures).1

@@ -1,10 +1,6 @@
--- `includes::includes` meets its contract: the loop compares one include after the other. The measure is how many are left. Assumes nothing.
-use Prim.Native.Nat.{◌-◌}
+-- `includes::includes` meets its contract: the loop compares one include after the other. Assumes nothing.
 use Rattle.includes.proofs.Including.{Including}
 use Rattle.includes.proofs.includes.Given as goal
 
 abbrev pub invariant-loop-i : goal.invariant-loop-i
 invariant-loop-i l = Including l.block l.reference l.n l.at l.i
-
-abbrev pub decreases-loop-i : goal.decreases-loop-i
-decreases-loop-i l = l.n - l.i

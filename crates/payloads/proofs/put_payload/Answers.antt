@@ -11,7 +11,7 @@ use Rattle.encode.proofs.Encodings.{AtStart, at_start, within_at_start, bytes_at
 use Rattle.encode_blocks.proofs.Blocks.{payload_laid}
 use Rattle.payloads.specs.Small.{payload_line}
 use Rattle.payloads.proofs.put_payload.Goals as goal
-use Rattle.payloads.proofs.put_payload.Goals.{After-encode_payload, In-End, Start}
+use Rattle.payloads.proofs.put_payload.Goals.{After-encode_payload, In-Ok, Start}
 
 encoded : (c : After-encode_payload)
     → AtStart (le 8 c.args.count ++ c.args.statements.now) c.encode_payload.result c.encode_payload.new.out
@@ -21,34 +21,34 @@ encoded c =
     (λ i. omega (arith, c.type_inv.statements i))) at c.encode_payload.ensures)
     (omega (arith, c.requires.at_bound.1, length_counted c.args.count c.args.statements.now))
 
--- another answer than End there is not
+-- another answer than Ok there is not
 pub returns-in_default : goal.returns-in_default
 returns-in_default c =
-    absurd (c.in_default.not-End _ (encoded (goal.at.returns-in_default c).After-encode_payload).answer)
+    absurd (c.in_default.not-Ok _ (encoded (goal.at.returns-in_default c).After-encode_payload).answer)
 
 pub slice_bounds-payload-end : goal.slice_bounds-payload-end
 slice_bounds-payload-end c =
-    within_at_start (encoded (goal.at.slice_bounds-payload-end c).After-encode_payload) c.in-End.is
+    within_at_start (encoded (goal.at.slice_bounds-payload-end c).After-encode_payload) c.in-Ok.is
 
 pub slice_bounds-put_hex_bytes-end : goal.slice_bounds-put_hex_bytes-end
 slice_bounds-put_hex_bytes-end c =
-    length_at_start (encoded (goal.at.slice_bounds-put_hex_bytes-end c).After-encode_payload) c.in-End.is
+    length_at_start (encoded (goal.at.slice_bounds-put_hex_bytes-end c).After-encode_payload) c.in-Ok.is
 
 -- what is shown: the payload, 21 bytes at most
 pub put_hex_bytes-next-requires : goal.put_hex_bytes-next-requires
 put_hex_bytes-next-requires c =
-    let part = bytes_at_start (encoded (goal.at.put_hex_bytes-next-requires c).After-encode_payload) c.in-End.is in (
+    let part = bytes_at_start (encoded (goal.at.put_hex_bytes-next-requires c).After-encode_payload) c.in-Ok.is in (
       omega (arith, c.requires.at_bound.0),
       omega (arith, ap length part, length_counted c.args.count c.args.statements.now, c.requires.at_bound.1),
     )
 
 pub put_bytes-requires : goal.put_bytes-requires
 put_bytes-requires c =
-    let part = bytes_at_start (encoded (goal.at.put_bytes-requires c).After-encode_payload) c.in-End.is in
+    let part = bytes_at_start (encoded (goal.at.put_bytes-requires c).After-encode_payload) c.in-Ok.is in
     omega (
       arith,
       c.put_hex_bytes-next.ensures.next,
-      length_hex_bytes (take c.in-End.end c.encode_payload.new.out),
+      length_hex_bytes (take c.in-Ok.end c.encode_payload.new.out),
       ap length part,
       length_counted c.args.count c.args.statements.now,
       c.requires.at_bound.1,
@@ -58,5 +58,5 @@ put_bytes-requires c =
 pub returns : goal.returns
 unfolding payload_line
 returns c =
-    let part = bytes_at_start (encoded (goal.at.returns c).After-encode_payload) c.in-End.is in
+    let part = bytes_at_start (encoded (goal.at.returns c).After-encode_payload) c.in-Ok.is in
     then_put (rw part at c.put_hex_bytes-next.ensures) c.put_bytes.ensures

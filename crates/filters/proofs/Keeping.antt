@@ -8,6 +8,7 @@ use native.Mathlib.Omega.{arith}
 use lib.Dec.{eqb}
 use lib.ListN.{length, take, drop, length-drop, drop_of_length-le}
 use lib.Seq.{take_all}
+use Rattle.std.specs.Prelude.{Some, None}
 use Rattle.laws.specs.Pick.{pick}
 use Rattle.laws.proofs.Tests.{leb_cases}
 use Rattle.rows.specs.Rows.{rows_of}
@@ -55,19 +56,19 @@ keep_shorter f (r ∷ rows) = go (f r) (keep_shorter f rows)
 
 -- ---- A limit that all rows keep
 
-pub chosen_every : (author limit : ℕ) (rows : List (List ℕ)) → length rows ≤ limit → chosen true author limit rows ≡ rows
-unfolding chosen pick
-chosen_every author limit rows h = rw (keep_every rows) (take_all limit rows h)
+pub chosen_every : (limit : ℕ) (rows : List (List ℕ)) → length rows ≤ limit → chosen None limit rows ≡ rows
+unfolding chosen
+chosen_every limit rows h = rw (keep_every rows) (take_all limit rows h)
 
 pub chosen_author : (author limit : ℕ) (rows : List (List ℕ)) → length rows ≤ limit
-    → chosen false author limit rows ≡ keep (λ r. eqb (author_of r) author) rows
-unfolding chosen pick
+    → chosen (Some author) limit rows ≡ keep (λ r. eqb (author_of r) author) rows
+unfolding chosen
 chosen_author author limit rows h =
     take_all limit (keep (λ r. eqb (author_of r) author) rows) (omega (arith, keep_shorter (λ r. eqb (author_of r) author) rows))
 
 pub chosen_limited : (author limit : ℕ) (rows : List (List ℕ))
-    → chosen false author limit rows ≡ take limit (keep (λ r. eqb (author_of r) author) rows)
-unfolding chosen pick
+    → chosen (Some author) limit rows ≡ take limit (keep (λ r. eqb (author_of r) author) rows)
+unfolding chosen
 chosen_limited author limit rows = refl
 
 -- ---- Between two places

@@ -1,14 +1,12 @@
 -- The rows that the code collects are those that a query asks for. Assumes nothing.
 use mathlib.Core.Path.{◌≡◌, sym, ap, ap₂, ◌∙◌}
-use mathlib.Core.Bool.{Bool, true, false}
 use mathlib.Core.List.{List, []}
 use Prim.Native.Nat.{ℕ, suc, ◌+◌, ◌*◌, ◌≤◌, ◌<◌}
 use native.Mathlib.Omega.{arith}
 use lib.Dec.{eqb, ltb}
 use lib.ListN.{length, take, drop, get_or, length-drop}
 use lib.Seq.{take-add, drop_at, length-take-le}
-use Rattle.laws.specs.Pick.{pick}
-use Rattle.rows.specs.declared.Place.TheVariants.{At, Gap}
+use Rattle.std.specs.Prelude.{Option, Some, None, Ok, Err}
 use Rattle.rows.specs.Rows.{rows_of, Ascending, below, place_of}
 use Rattle.rows.proofs.Rows.{length_rows_of, get_or_rows_of, first_row_at}
 use Rattle.rows.proofs.Places.{at_place, gap_place, present_row}
@@ -20,6 +18,11 @@ use Rattle.filters.specs.Segments.{between, chosen, up_to, rounds_long}
 use Rattle.filters.proofs.Keeping.{keep_both, chosen_every, chosen_author, chosen_limited, between_part, length_between}
 use Rattle.filters.proofs.Segments.{absent_none, present_one, ascending_rising, round_key, up_to_within, up_to_all, up_to_below, above_segment, round_segment}
 use Rattle.filters.proofs.Rounds.{long_within, rounds_segment}
+
+-- the rows of a round, of an author or of all
+abbrev pub of_round_and : Option ℕ → ℕ → List (List ℕ) → List (List ℕ)
+of_round_and None round = by_round round
+of_round_and (Some author) round = by_author_round author round
 
 module _ (w : List ℕ) (count : ℕ) (fits : 8 * count ≤ length w) where
   -- the first row above a round
@@ -42,21 +45,21 @@ module _ (w : List ℕ) (count : ℕ) (fits : 8 * count ≤ length w) where
 
   module _ (ascends : Ascending (rows_of count w)) where
     -- by reference
-    pub at_reference : (x : BlockReference) {i : ℕ} → At i ≡ place_of (key_words x) (rows_of count w)
-        → (i < count) × (chosen true 0 1 (between i (i + 1) w) ≡ by_reference x (rows_of count w))
+    pub at_reference : (x : BlockReference) {i : ℕ} → Ok i ≡ place_of (key_words x) (rows_of count w)
+        → (i < count) × (chosen None 1 (between i (i + 1) w) ≡ by_reference x (rows_of count w))
     unfolding by_reference
     at_reference x {i} is =
         let at = at_place (key_words x) (rows_of count w) is in
         let small : i < count = omega (arith, (present_row (key_words x) (rows_of count w) ascends at.0).0, at.1, length_rows_of count w) in
         let one : suc (below (key_words x) (rows_of count w)) ≡ i + 1 = omega (arith, at.1) in (
           small,
-          chosen_every 0 1 (between i (i + 1) w) (omega (arith, length_between i (i + 1) w))
+          chosen_every 1 (between i (i + 1) w) (omega (arith, length_between i (i + 1) w))
               ∙ between_part i (i + 1) count w (omega arith)
               ∙ ap₂ (λ (a b : ℕ). drop a (take b (rows_of count w))) at.1 (sym one)
               ∙ sym (present_one (key_words x) (rows_of count w) ascends at.0),
         )
 
-    pub no_reference_lem : (x : BlockReference) {i : ℕ} → Gap i ≡ place_of (key_words x) (rows_of count w) → by_reference x (rows_of count w) ≡ []
+    pub no_reference_lem : (x : BlockReference) {i : ℕ} → Err i ≡ place_of (key_words x) (rows_of count w) → by_reference x (rows_of count w) ≡ []
     unfolding by_reference
     no_reference_lem x is = absent_none (key_words x) (rows_of count w) (gap_place (key_words x) (rows_of count w) is).0
 
@@ -75,32 +78,31 @@ module _ (w : List ℕ) (count : ℕ) (fits : 8 * count ≤ length w) where
       these : between from to w ≡ keep (λ r. eqb (round_of r) round) (rows_of count w)
       these = ap₂ (λ (from to : ℕ). between from to w) starts ends ∙ round_rows round
 
-      of_round : (author : ℕ) → chosen true author (length w) (between from to w) ≡ by_round round (rows_of count w)
+      of_round : chosen None (length w) (between from to w) ≡ by_round round (rows_of count w)
       unfolding by_round
-      of_round author = chosen_every author (length w) (between from to w) (omega (arith, length_between from to w, round_within)) ∙ these
+      of_round = chosen_every (length w) (between from to w) (omega (arith, length_between from to w, round_within)) ∙ these
 
-      of_author_round : (author : ℕ) → chosen false author (length w) (between from to w) ≡ by_author_round author round (rows_of count w)
+      of_author_round : (author : ℕ) → chosen (Some author) (length w) (between from to w) ≡ by_author_round author round (rows_of count w)
       unfolding by_author_round
       of_author_round author =
           chosen_author author (length w) (between from to w) (omega (arith, length_between from to w, round_within))
           ∙ ap (keep (λ r. eqb (author_of r) author)) these
           ∙ sym (keep_both (λ r. eqb (author_of r) author) (λ r. eqb (round_of r) round) (rows_of count w))
 
-      pub of_rounds : (every : Bool) (author : ℕ)
-          → chosen every author (length w) (between from to w) ≡ pick every (by_round round) (by_author_round author round) (rows_of count w)
-      unfolding pick
-      of_rounds true author = of_round author
-      of_rounds false author = of_author_round author
+      pub of_rounds : (author : Option ℕ)
+          → chosen author (length w) (between from to w) ≡ of_round_and author round (rows_of count w)
+      of_rounds None = of_round
+      of_rounds (Some author) = of_author_round author
 
     -- after a round
     module _ (after : ℕ) {from : ℕ} (starts : from ≡ up_to after (rows_of count w)) where
       pub after_within : from ≤ count
       after_within = omega (arith, above_within after)
 
-      pub own_after_lem : (own limit : ℕ) → chosen false own limit (between from count w) ≡ own_after own after limit (rows_of count w)
+      pub own_after_lem : (own limit : ℕ) → chosen (Some own) limit (between from count w) ≡ own_after own after limit (rows_of count w)
       unfolding own_after between round_of
       own_after_lem own limit =
-          ap (λ (from : ℕ). chosen false own limit (drop from (rows_of count w))) starts
+          ap (λ (from : ℕ). chosen (Some own) limit (drop from (rows_of count w))) starts
           ∙ chosen_limited own limit (drop (up_to after (rows_of count w)) (rows_of count w))
           ∙ ap (λ (l : List (List ℕ)). take limit (keep (λ r. eqb (author_of r) own) l))
           (sym (above_segment after (rows_of count w) (ascending_rising (rows_of count w) ascends)))
@@ -127,7 +129,7 @@ module _ (w : List ℕ) (count : ℕ) (fits : 8 * count ≤ length w) where
             ∙ ap (λ (from : ℕ). take (rounds_long limit (drop from rows)) (drop from rows)) starts
             ∙ sym (rounds_segment after limit rows (ascending_rising rows ascends))
 
-        pub others_after_lem : (author : ℕ) → chosen false author (length w) (between from to w) ≡ others_after author after limit (rows_of count w)
+        pub others_after_lem : (author : ℕ) → chosen (Some author) (length w) (between from to w) ≡ others_after author after limit (rows_of count w)
         unfolding others_after
         others_after_lem author =
             chosen_author author (length w) (between from to w) (omega (arith, length_between from to w, to_within))

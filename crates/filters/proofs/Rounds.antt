@@ -302,13 +302,13 @@ module _ (w : List ℕ) (count from limit : ℕ) where
       (eqb_cases i from)
 
   module _ {i seen : ℕ} (h : Passing i seen) where
-    pub passing_done : count ≤ i → i ≡ from + rounds_long limit (rows_from w from count)
+    pub passing_done : count ≤ i → count ≡ from + rounds_long limit (rows_from w from count)
     unfolding to_come rounds_long rounds_within pick
     passing_done all =
         let none : to_come i seen ≡ 0 =
         ap (λ (l : List (List ℕ)). pick (eqb i from) (rounds_long limit l) (rounds_within (limit - seen) (get_or w (8 * i - 8) 0) l)) (rows_from_none w i count all)
         ∙ either (eqb i from) in
-        omega (arith, h.long)
+        omega (arith, h.long, h.within)
       where
         either : (t : Bool) → ◌≡◌ {A = ℕ} (pick t 0 0) 0
         either true = refl

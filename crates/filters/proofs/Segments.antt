@@ -10,7 +10,7 @@ use lib.ListN.{length, take, drop, get_or, length-take}
 use borrow.Author.Tests.{le-leb, lt-leb, ne_eqb, lt-ltb, le-ltb}
 use Rattle.laws.specs.Pick.{pick}
 use Rattle.laws.proofs.Tests.{leb_cases, eqb_cases}
-use Rattle.rows.specs.declared.Order.TheVariants.{Below}
+use Rattle.std.specs.declared.cmp.Ordering.TheVariants.{Less}
 use Rattle.rows.specs.Rows.{key, choose, compared, Leads, Ascending, below, has_key}
 use Rattle.tables.specs.Tables.{EightWords}
 use Rattle.rows.proofs.Lexicographic.{order_cases, first_below, first_above, first_same, not_above, not_equal, compared_equal, below_of}
@@ -65,7 +65,7 @@ pub least_weaker : (p q : ℕ) (rows : List (List ℕ)) → q ≤ p → AtLeast 
 least_weaker p q [] h l = tt
 least_weaker p q (r ∷ rows) h l = (omega (arith, l.0), least_weaker p q rows h l.1)
 
-below_round : (r s : List ℕ) → compared (key r) (key s) ≡ Below → get_or r 0 0 ≤ get_or s 0 0
+below_round : (r s : List ℕ) → compared (key r) (key s) ≡ Less → get_or r 0 0 ≤ get_or s 0 0
 unfolding key compared
 below_round [] s h = omega arith
 below_round (x ∷ r) [] h = absurd (not_above (sym h))
@@ -135,7 +135,7 @@ abbrev zero_words : ℕ → List ℕ
 zero_words zero = []
 zero_words (suc n) = 0 ∷ zero_words n
 
-not_below_zeros : (n : ℕ) (a : List ℕ) → n ≤ length a → compared a (zero_words n) ≡ Below → ⊥
+not_below_zeros : (n : ℕ) (a : List ℕ) → n ≤ length a → compared a (zero_words n) ≡ Less → ⊥
 unfolding compared
 not_below_zeros zero [] l h = not_equal (sym h)
 not_below_zeros zero (x ∷ a) l h = not_above (sym h)
@@ -147,12 +147,12 @@ not_below_zeros (suc n) (x ∷ a) l h =
     (leb_cases 1 x)
 
 module _ (round : ℕ) where
-  row_below : (r : List ℕ) → length r ≡ 8 → get_or r 0 0 < round → compared (key r) (round_key round) ≡ Below
+  row_below : (r : List ℕ) → length r ≡ 8 → get_or r 0 0 < round → compared (key r) (round_key round) ≡ Less
   unfolding key
   row_below [] e h = absurd (omega arith)
   row_below (x ∷ r) e h = first_below x round (take 5 r) (0 ∷ 0 ∷ 0 ∷ 0 ∷ 0 ∷ []) h
 
-  row_from : (r : List ℕ) → length r ≡ 8 → round ≤ get_or r 0 0 → compared (key r) (round_key round) ≡ Below → ⊥
+  row_from : (r : List ℕ) → length r ≡ 8 → round ≤ get_or r 0 0 → compared (key r) (round_key round) ≡ Less → ⊥
   unfolding key
   row_from [] e l h = omega arith
   row_from (x ∷ r) e l h =

@@ -1,16 +1,22 @@
 -- For the proofs alone; no promise is stated with it. Where the rows that a lookup asks for stand in the index: between two places, of an
 -- author or of all, up to a limit.
-use Rattle.std.specs.Prelude.{Bool, true, List, [], ◌∷◌, ℕ, zero, suc, leb, eqb, take, drop, get_or}
+use Rattle.std.specs.Prelude.{Bool, true, Option, Some, None, List, [], ◌∷◌, ℕ, zero, suc, leb, eqb, take, drop, get_or}
 use Rattle.laws.specs.Pick.{pick}
 use Rattle.rows.specs.Rows.{rows_of}
 use Rattle.filters.specs.Filters.{keep, author_of}
 
--- the rows from one to another, of an author or of all, up to a limit
+-- whether x is the author that is asked for, or all are
+abbrev pub is_author : Option ℕ → ℕ → Bool
+is_author None x = true
+is_author (Some author) x = eqb x author
+
+-- the rows from one place to another
 unfoldable pub between : ℕ → ℕ → List ℕ → List (List ℕ)
 between from to index = drop from (rows_of to index)
 
-unfoldable pub chosen : Bool → ℕ → ℕ → List (List ℕ) → List (List ℕ)
-chosen every author limit rows = take limit (keep (λ r. pick every true (eqb (author_of r) author)) rows)
+-- those of an author or of all, up to a limit
+unfoldable pub chosen : Option ℕ → ℕ → List (List ℕ) → List (List ℕ)
+chosen author limit rows = take limit (keep (λ r. is_author author (author_of r)) rows)
 
 -- how many rows are up to a round
 unfoldable pub up_to : ℕ → List (List ℕ) → ℕ

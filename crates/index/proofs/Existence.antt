@@ -13,8 +13,8 @@ use Rattle.laws.specs.Bytes.{zeros}
 use Rattle.laws.specs.Pick.{pick}
 use Rattle.laws.proofs.Tests.{leb_cases, eqb_cases}
 use Rattle.laws.proofs.Written.{get_or_bytes_at}
-use Rattle.rows.specs.declared.Order.TheVariants.{Below, Above}
-use Rattle.rows.specs.declared.Place.TheVariants.{At, Gap}
+use Rattle.std.specs.declared.cmp.Ordering.TheVariants.{Less, Greater}
+use Rattle.std.specs.Prelude.{Ok, Err}
 use Rattle.rows.specs.Rows.{rows_of, row_at, key, choose, compared, Leads, Ascending, below, has_key, place_of}
 use Rattle.tables.specs.Tables.{EightWords}
 use Rattle.rows.proofs.Lexicographic.{order_cases, not_equal, not_above, above_not_equal, first_above, first_same, compared_self, compared_equal, below_of, below_trans, irreflexive}
@@ -30,7 +30,7 @@ unfolding row_at
 second_row_at w i = get_or_bytes_at w (8 * i) 8 1 (omega arith)
 
 -- nothing of n words is below n zeros
-least : (n : ℕ) (t : List ℕ) → length t ≡ n → compared t (zeros n) ≡ Below → ⊥
+least : (n : ℕ) (t : List ℕ) → length t ≡ n → compared t (zeros n) ≡ Less → ⊥
 unfolding zeros compared
 least zero [] e h = not_equal (sym h)
 least zero (x ∷ t) e h = absurd (omega arith)
@@ -48,7 +48,7 @@ key_parts r = take-add 2 4 r
 
 compared_parts : (r s : List ℕ) → 2 ≤ length r → 2 ≤ length s
     → compared (key r) (key s)
-    ≡ choose (compared (take 2 r) (take 2 s)) Below (compared (take 4 (drop 2 r)) (take 4 (drop 2 s))) Above
+    ≡ choose (compared (take 2 r) (take 2 s)) Less (compared (take 4 (drop 2 r)) (take 4 (drop 2 s))) Greater
 compared_parts r s h k =
     rw (key_parts r, key_parts s)
     (compared_append (take 2 r) (take 2 s) (take 4 (drop 2 r)) (take 4 (drop 2 s)) (length-take-le 2 r h ∙ sym (length-take-le 2 s k)))
@@ -107,12 +107,12 @@ module _ (authority round : ℕ) where
 
   -- a row behind one that begins above
   none_behind : (r : List ℕ) (rows : List (List ℕ)) → 2 ≤ length r → Leads (key r) rows → Ascending rows → EightWords rows
-      → compared wanted (take 2 r) ≡ Below → exists_at authority round rows ≡ false
+      → compared wanted (take 2 r) ≡ Less → exists_at authority round rows ≡ false
   unfolding exists_at pick choose
   none_behind r [] h l a e p = refl
   none_behind r (s ∷ rows) h l a e p =
       let long : 2 ≤ length s = omega (arith, e.0) in
-      let q : compared wanted (take 2 s) ≡ Below =
+      let q : compared wanted (take 2 s) ≡ Less =
       ⊎_elim
       (λ b. below_trans wanted (take 2 r) (take 2 s) p b)
       (⊎_elim
@@ -123,13 +123,13 @@ module _ (authority round : ℕ) where
       ∙ rw (has_other s long (λ same. irreflexive wanted (rw same at q)), none_behind s rows long a.0 a.1 e.1 q)
 
   module _ (r : List ℕ) (rows : List (List ℕ)) (long : 6 ≤ length r) (e : EightWords rows) (a : Ascending (r ∷ rows)) where
-    against : compared (key r) lowest ≡ choose (compared (take 2 r) wanted) Below (compared (take 4 (drop 2 r)) (zeros 4)) Above
+    against : compared (key r) lowest ≡ choose (compared (take 2 r) wanted) Less (compared (take 4 (drop 2 r)) (zeros 4)) Greater
     unfolding zeros
     against =
         ap (λ (l : List ℕ). compared l lowest) (key_parts r)
         ∙ compared_append (take 2 r) wanted (take 4 (drop 2 r)) (zeros 4) (length-take-le 2 r (omega arith))
 
-    at_front : compared (key r) lowest ≡ Above
+    at_front : compared (key r) lowest ≡ Greater
         → pick (has_key lowest (r ∷ rows)) true (first_has (drop (below lowest (r ∷ rows)) (r ∷ rows))) ≡ has r
     unfolding below has_key choose pick
     at_front g =
@@ -146,7 +146,7 @@ module _ (authority round : ℕ) where
       let front = at_front r rows (omega (arith, e.0)) e.1 a in
       ⊎_elim
       (λ b.
-      let is : compared (key r) lowest ≡ Below = key_is ∙ rw b in
+      let is : compared (key r) lowest ≡ Less = key_is ∙ rw b in
       exists_cons r rows
       ∙ rw (has_other r two (λ same. irreflexive wanted (rw same at b)), is) (exists_place rows e.1 a.1))
       (⊎_elim
@@ -163,7 +163,7 @@ module _ (authority round : ℕ) where
       (λ g. exists_cons r rows ∙ rw (has_same r two same) (sym (has_same r two same) ∙ sym (front g))))
       (order_cases (compared (key r) lowest)))
       (λ g.
-      let is : compared (key r) lowest ≡ Above = key_is ∙ rw g in
+      let is : compared (key r) lowest ≡ Greater = key_is ∙ rw g in
       let other : has r ≡ false = has_other r two (λ same. above_not_equal (sym g ∙ ap (λ (l : List ℕ). compared l wanted) same ∙ compared_self wanted)) in
       exists_cons r rows
       ∙ rw other (none_behind r rows two a.0 a.1 e.1 (below_of (take 2 r) wanted g) ∙ sym other ∙ sym (front is))))
@@ -171,11 +171,11 @@ module _ (authority round : ℕ) where
 
   -- The rows of a table, and where the lowest key is among them or is to be put.
   module _ (t : List ℕ) (count : ℕ) (fits : 8 * count ≤ length t) (a : Ascending (rows_of count t)) {i : ℕ} where
-    pub exists_found : At i ≡ place_of lowest (rows_of count t) → true ≡ exists_at authority round (rows_of count t)
+    pub exists_found : Ok i ≡ place_of lowest (rows_of count t) → true ≡ exists_at authority round (rows_of count t)
     unfolding pick
     exists_found is = sym (exists_place (rows_of count t) (eights_rows_of count t fits) a ∙ rw (at_place lowest (rows_of count t) is).0)
 
-    pub exists_not_found : Gap i ≡ place_of lowest (rows_of count t)
+    pub exists_not_found : Err i ≡ place_of lowest (rows_of count t)
         → pick (ltb i count) (pick (eqb (get_or t (8 * i) 0) round) (eqb (get_or t (8 * i + 1) 0) authority) false) false
         ≡ exists_at authority round (rows_of count t)
     unfolding pick

@@ -18,7 +18,7 @@ use Rattle.text.specs.Digits.{digits, decimal}
 use Rattle.text.specs.Columns.{blanks, right, left, spaced}
 use Rattle.text.proofs.Digits.{decimal_one, decimal_more}
 use Rattle.text.proofs.Columns.{length_right, length_left}
-use Rattle.rows.specs.declared.Order.TheVariants.{Below, Above}
+use Rattle.std.specs.declared.cmp.Ordering.TheVariants.{Less, Greater}
 use Rattle.rows.specs.Rows.{choose, compared}
 use Rattle.rows.proofs.Lexicographic.{first_below, first_above, first_same, compared_self}
 use Rattle.wal.specs.Walk.{Stop}
@@ -111,15 +111,15 @@ module _ (p x : ℕ) (rest : List ℕ) where
   unfolding begun
   position h = rw (column [] (right 13 (decimal p)) (blank ∷ x ∷ rest) 0 13 refl (length_right 13 (decimal p) h)) (number_right 13 p)
 
-  below_block : (a r : ℕ) → x < 98 → compared begun (said (block_at p a r)) ≡ Below
+  below_block : (a r : ℕ) → x < 98 → compared begun (said (block_at p a r)) ≡ Less
   unfolding begun said spaced left ascii
   below_block a r h = rw (append_assoc (right 13 (decimal p))) (behind (right 13 (decimal p)) _ _ ∙ first_below x 98 _ _ h)
 
-  above_block : (a r : ℕ) → 98 < x → compared begun (said (block_at p a r)) ≡ Above
+  above_block : (a r : ℕ) → 98 < x → compared begun (said (block_at p a r)) ≡ Greater
   unfolding begun said spaced left ascii
   above_block a r h = rw (append_assoc (right 13 (decimal p))) (behind (right 13 (decimal p)) _ _ ∙ first_above x 98 _ _ h)
 
-  below_payload : x < 112 → compared begun (said (payload_at p)) ≡ Below
+  below_payload : x < 112 → compared begun (said (payload_at p)) ≡ Less
   unfolding begun said spaced left ascii
   below_payload h = rw (append_assoc (right 13 (decimal p))) (behind (right 13 (decimal p)) _ _ ∙ first_below x 112 _ _ h)
 

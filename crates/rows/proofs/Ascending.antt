@@ -6,7 +6,7 @@ use mathlib.Core.Logic.{⊎_elim, ◌↔◌}
 use Prim.Native.Nat.{ℕ, zero, suc}
 use lib.ListN.{take, drop, set, get_or}
 use Rattle.laws.specs.Pick.{pick}
-use Rattle.rows.specs.declared.Order.TheVariants.{Below, Above}
+use Rattle.std.specs.declared.cmp.Ordering.TheVariants.{Less, Greater}
 use Rattle.rows.specs.Rows.{key, choose, compared, Leads, Ascending, leads, ascendingb, below, has_key}
 use Rattle.rows.proofs.Lexicographic.{order_cases, below_trans, above_of, below_of}
 
@@ -46,7 +46,7 @@ pub ascendingb_decides : (rows : List (List ℕ)) → (ascendingb rows ≡ true)
 ascendingb_decides rows = (ascendingb_true rows, true_ascendingb rows)
 
 -- a key below the one that leads leads too
-pub leads_trans : (j k : List ℕ) (rows : List (List ℕ)) → compared j k ≡ Below → Leads k rows → Leads j rows
+pub leads_trans : (j k : List ℕ) (rows : List (List ℕ)) → compared j k ≡ Less → Leads k rows → Leads j rows
 leads_trans j k [] h l = tt
 leads_trans j k (r ∷ rows) h l = below_trans j k (key r) h l
 
@@ -56,13 +56,13 @@ pub leads_none : (k : List ℕ) (rows : List (List ℕ)) → Leads k rows → As
 unfolding below has_key choose
 leads_none k [] l a = (refl, refl)
 leads_none k (r ∷ rows) l a =
-    let e : compared (key r) k ≡ Above = above_of k (key r) l in
+    let e : compared (key r) k ≡ Greater = above_of k (key r) l in
     let n : (below k rows ≡ 0) × (has_key k rows ≡ false) = leads_none k rows (leads_trans k (key r) rows l a.0) a.1 in
     (rw e n.0, rw e n.1)
 
 -- the first key is below each later one
 pub first_least : (r : List ℕ) (a : List (List ℕ)) (s : List ℕ) (b : List (List ℕ)) → Ascending (r ∷ (a ++ s ∷ b))
-    → compared (key r) (key s) ≡ Below
+    → compared (key r) (key s) ≡ Less
 first_least r [] s b h = h.0
 first_least r (x ∷ a) s b h = below_trans (key r) (key x) (key s) h.0 (first_least x a s b h.1)
 
@@ -77,7 +77,7 @@ ascending_back (r ∷ a) b h = ascending_back a b h.1
 
 -- a row inserted before the keys that are not below its own, which is none of theirs
 module _ (row : List ℕ) where
-  leads_inserted : (k : List ℕ) (i : ℕ) (rows : List (List ℕ)) → Leads k rows → compared k (key row) ≡ Below
+  leads_inserted : (k : List ℕ) (i : ℕ) (rows : List (List ℕ)) → Leads k rows → compared k (key row) ≡ Less
       → Leads k (take i rows ++ row ∷ drop i rows)
   leads_inserted k zero rows l h = h
   leads_inserted k (suc i) [] l h = h
@@ -93,7 +93,7 @@ module _ (row : List ℕ) where
       (⊎_elim
       (λ e. absurd (true≢false (rw e at p)))
       (λ a.
-      let l : compared (key row) (key r) ≡ Below = below_of (key r) (key row) a in
+      let l : compared (key row) (key r) ≡ Less = below_of (key r) (key row) a in
       rw (a, (leads_none (key row) rows (leads_trans (key row) (key r) rows l h.0) h.1).0) (l, h)))
       (order_cases (compared (key r) (key row)))
 

@@ -7,23 +7,23 @@ use native.Mathlib.Omega.{arith}
 use borrow.Author.Tests.{lt-ltb, le-ltb}
 use Rattle.laws.specs.Pick.{pick}
 use Rattle.laws.proofs.Tests.{leb_cases}
-use Rattle.rows.specs.declared.Order.{Order}
-use Rattle.rows.specs.declared.Order.TheVariants.{Below, Equal, Above}
+use Rattle.std.specs.declared.cmp.Ordering.{Ordering}
+use Rattle.std.specs.declared.cmp.Ordering.TheVariants.{Less, Equal, Greater}
 use Rattle.rows.specs.Rows.{choose, compared}
 
-pub order_cases : (o : Order) → (o ≡ Below) ⊎ ((o ≡ Equal) ⊎ (o ≡ Above))
-order_cases Below = inl refl
+pub order_cases : (o : Ordering) → (o ≡ Less) ⊎ ((o ≡ Equal) ⊎ (o ≡ Greater))
+order_cases Less = inl refl
 order_cases Equal = inr (inl refl)
-order_cases Above = inr (inr refl)
+order_cases Greater = inr (inr refl)
 
 -- the three orders differ
-pub not_equal : Below ≡ Equal → ⊥
+pub not_equal : Less ≡ Equal → ⊥
 not_equal e = let z : ◌≡◌ {A = ℕ} 0 1 = cc in omega arith
 
-pub not_above : Below ≡ Above → ⊥
+pub not_above : Less ≡ Greater → ⊥
 not_above e = let z : ◌≡◌ {A = ℕ} 0 1 = cc in omega arith
 
-pub above_not_equal : Above ≡ Equal → ⊥
+pub above_not_equal : Greater ≡ Equal → ⊥
 above_not_equal e = let z : ◌≡◌ {A = ℕ} 0 1 = cc in omega arith
 
 sides : (x y : ℕ) → (x < y) ⊎ ((x ≡ y) ⊎ (y < x))
@@ -35,11 +35,11 @@ sides x y =
 
 -- the first words decide, unless they are the same
 module _ (x y : ℕ) (a b : List ℕ) where
-  pub first_below : x < y → compared (x ∷ a) (y ∷ b) ≡ Below
+  pub first_below : x < y → compared (x ∷ a) (y ∷ b) ≡ Less
   unfolding compared pick
   first_below h = rw (lt-ltb x y h)
 
-  pub first_above : y < x → compared (x ∷ a) (y ∷ b) ≡ Above
+  pub first_above : y < x → compared (x ∷ a) (y ∷ b) ≡ Greater
   unfolding compared pick
   first_above h = rw (le-ltb x y (omega arith), lt-ltb y x h)
 
@@ -47,7 +47,7 @@ module _ (x y : ℕ) (a b : List ℕ) where
   unfolding compared pick
   first_same e = rw (le-ltb x y (omega arith), le-ltb y x (omega arith))
 
-  first_cases : compared (x ∷ a) (y ∷ b) ≡ Below → (x < y) ⊎ ((x ≡ y) × (compared a b ≡ Below))
+  first_cases : compared (x ∷ a) (y ∷ b) ≡ Less → (x < y) ⊎ ((x ≡ y) × (compared a b ≡ Less))
   first_cases h =
       ⊎_elim
       (λ l. inl l)
@@ -60,7 +60,7 @@ compared_self [] = refl
 compared_self (x ∷ a) = first_same x x a a refl ∙ compared_self a
 
 -- the other way round
-pub compared_swap : (a b : List ℕ) → compared b a ≡ choose (compared a b) Above Equal Below
+pub compared_swap : (a b : List ℕ) → compared b a ≡ choose (compared a b) Greater Equal Less
 unfolding compared choose
 compared_swap [] [] = refl
 compared_swap [] (y ∷ b) = refl
@@ -73,16 +73,16 @@ compared_swap (x ∷ a) (y ∷ b) =
     (λ g. first_below y x b a g ∙ ap swapped (sym (first_above x y a b g))))
     (sides x y)
   where
-    swapped : Order → Order
-    swapped o = choose o Above Equal Below
+    swapped : Ordering → Ordering
+    swapped o = choose o Greater Equal Less
 
-pub above_of : (a b : List ℕ) → compared a b ≡ Below → compared b a ≡ Above
+pub above_of : (a b : List ℕ) → compared a b ≡ Less → compared b a ≡ Greater
 unfolding choose
-above_of a b h = compared_swap a b ∙ ap (λ (o : Order). choose o Above Equal Below) h
+above_of a b h = compared_swap a b ∙ ap (λ (o : Ordering). choose o Greater Equal Less) h
 
-pub below_of : (a b : List ℕ) → compared a b ≡ Above → compared b a ≡ Below
+pub below_of : (a b : List ℕ) → compared a b ≡ Greater → compared b a ≡ Less
 unfolding choose
-below_of a b h = compared_swap a b ∙ ap (λ (o : Order). choose o Above Equal Below) h
+below_of a b h = compared_swap a b ∙ ap (λ (o : Ordering). choose o Greater Equal Less) h
 
 pub compared_equal : (a b : List ℕ) → compared a b ≡ Equal → a ≡ b
 unfolding compared
@@ -97,7 +97,7 @@ compared_equal (x ∷ a) (y ∷ b) h =
     (λ g. absurd (above_not_equal (sym (first_above x y a b g) ∙ h))))
     (sides x y)
 
-pub below_trans : (a b c : List ℕ) → compared a b ≡ Below → compared b c ≡ Below → compared a c ≡ Below
+pub below_trans : (a b c : List ℕ) → compared a b ≡ Less → compared b c ≡ Less → compared a c ≡ Less
 unfolding compared
 below_trans [] [] c h g = g
 below_trans [] (y ∷ b) [] h g = absurd (not_above (sym g))
@@ -114,5 +114,5 @@ below_trans (x ∷ a) (y ∷ b) (z ∷ c) h g =
     (first_cases y z b c g))
     (first_cases x y a b h)
 
-pub irreflexive : (a : List ℕ) → compared a a ≡ Below → ⊥
+pub irreflexive : (a : List ℕ) → compared a a ≡ Less → ⊥
 irreflexive a h = not_equal (sym h ∙ compared_self a)

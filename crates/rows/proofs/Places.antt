@@ -8,8 +8,8 @@ use native.Mathlib.Nat.{zero-add, suc-add}
 use native.Mathlib.Omega.{arith}
 use lib.ListN.{length, get_or}
 use Rattle.laws.specs.Pick.{pick}
-use Rattle.rows.specs.declared.Order.TheVariants.{Below, Equal, Above}
-use Rattle.rows.specs.declared.Place.TheVariants.{At, Gap}
+use Rattle.std.specs.declared.cmp.Ordering.TheVariants.{Less, Equal, Greater}
+use Rattle.std.specs.Prelude.{Ok, Err}
 use Rattle.rows.specs.Rows.{key, choose, compared, Leads, Ascending, below, has_key, place_of}
 use Rattle.rows.proofs.Lexicographic.{order_cases, below_trans, below_of, compared_equal}
 use Rattle.rows.proofs.Ascending.{leads_trans, leads_none, first_least, ascending_back}
@@ -18,18 +18,18 @@ use Rattle.rows.proofs.Ascending.{leads_trans, leads_none, first_least, ascendin
 module _ (k r : List ℕ) (b : List (List ℕ)) where
   -- the rows before r are below k where those below r are
   before_row : (a : List (List ℕ)) → Ascending (a ++ r ∷ b)
-      → ((j : List ℕ) → compared j (key r) ≡ Below → compared j k ≡ Below)
+      → ((j : List ℕ) → compared j (key r) ≡ Less → compared j k ≡ Less)
       → (below k (a ++ r ∷ b) ≡ length a + below k (r ∷ b)) × (has_key k (a ++ r ∷ b) ≡ has_key k (r ∷ b))
   unfolding below has_key choose
   before_row [] h f = (sym (zero-add (below k (r ∷ b))), refl)
   before_row (x ∷ a) h f =
-      let e : compared (key x) k ≡ Below = f (key x) (first_least x a r b h) in
+      let e : compared (key x) k ≡ Less = f (key x) (first_least x a r b h) in
       let n : (below k (a ++ r ∷ b) ≡ length a + below k (r ∷ b)) × (has_key k (a ++ r ∷ b) ≡ has_key k (r ∷ b)) =
       before_row a h.1 f in
       (rw e (ap suc n.0 ∙ sym (suc-add (length a) (below k (r ∷ b)))), rw e n.1)
 
   module _ (a : List (List ℕ)) (h : Ascending (a ++ r ∷ b)) where
-    pub below_row : compared (key r) k ≡ Below
+    pub below_row : compared (key r) k ≡ Less
         → (below k (a ++ r ∷ b) ≡ length a + 1 + below k b) × (has_key k (a ++ r ∷ b) ≡ has_key k b)
     unfolding below has_key choose
     below_row l =
@@ -50,7 +50,7 @@ module _ (k r : List ℕ) (b : List (List ℕ)) where
         let y : below k (r ∷ b) ≡ below k b = rw q in
         (omega arith, n.1 ∙ rw q)
 
-  pub above_row : (a : List (List ℕ)) → Ascending (a ++ r ∷ b) → compared (key r) k ≡ Above
+  pub above_row : (a : List (List ℕ)) → Ascending (a ++ r ∷ b) → compared (key r) k ≡ Greater
       → (below k (a ++ r ∷ b) ≡ below k a) × (has_key k (a ++ r ∷ b) ≡ has_key k a)
   unfolding below has_key
   above_row [] h g = leads_none k (r ∷ b) (below_of (key r) k g) h
@@ -89,18 +89,18 @@ below_within k (r ∷ rows) =
     (order_cases (compared (key r) k))
 
 -- what each answer says
-pub at_place : (k : List ℕ) (rows : List (List ℕ)) {i : ℕ} → At i ≡ place_of k rows → (has_key k rows ≡ true) × (i ≡ below k rows)
+pub at_place : (k : List ℕ) (rows : List (List ℕ)) {i : ℕ} → Ok i ≡ place_of k rows → (has_key k rows ≡ true) × (i ≡ below k rows)
 unfolding place_of pick
 at_place k rows {i} e = picked (has_key k rows) e
   where
-    picked : (t : Bool) → At i ≡ pick t (At (below k rows)) (Gap (below k rows)) → (t ≡ true) × (i ≡ below k rows)
+    picked : (t : Bool) → Ok i ≡ pick t (Ok (below k rows)) (Err (below k rows)) → (t ≡ true) × (i ≡ below k rows)
     picked true e = (refl, cc)
     picked false e = (cc, cc)
 
-pub gap_place : (k : List ℕ) (rows : List (List ℕ)) {i : ℕ} → Gap i ≡ place_of k rows → (has_key k rows ≡ false) × (i ≡ below k rows)
+pub gap_place : (k : List ℕ) (rows : List (List ℕ)) {i : ℕ} → Err i ≡ place_of k rows → (has_key k rows ≡ false) × (i ≡ below k rows)
 unfolding place_of pick
 gap_place k rows {i} e = picked (has_key k rows) e
   where
-    picked : (t : Bool) → Gap i ≡ pick t (At (below k rows)) (Gap (below k rows)) → (t ≡ false) × (i ≡ below k rows)
+    picked : (t : Bool) → Err i ≡ pick t (Ok (below k rows)) (Err (below k rows)) → (t ≡ false) × (i ≡ below k rows)
     picked true e = (cc, cc)
     picked false e = (refl, cc)

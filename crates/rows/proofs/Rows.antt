@@ -43,6 +43,12 @@ pub key_words_lem : (w : List ℕ) (i : ℕ) → 8 * i + 6 ≤ length w
     ≡ key (row_at w i)
 key_words_lem w i h = simp towards_suc (sym (bytes_at_words w (8 * i) 6 h) ∙ sym (key_row_at w i))
 
+-- the same of a row alone
+pub key_of_row : (row : List ℕ) → length row ≡ 8
+    → get_or row 0 0 ∷ get_or row 1 0 ∷ get_or row 2 0 ∷ get_or row 3 0 ∷ get_or row 4 0 ∷ get_or row 5 0 ∷ [] ≡ key row
+unfolding key bytes_at
+key_of_row row h = sym (bytes_at_words row 0 6 (omega arith))
+
 pub first_row_at : (w : List ℕ) (i : ℕ) → get_or (row_at w i) 0 0 ≡ get_or w (8 * i) 0
 unfolding row_at bytes_at
 first_row_at w i =
@@ -66,7 +72,7 @@ drop_take zero m l = ap (λ (k : ℕ). take k l) (zero-add m)
 drop_take (suc n) m [] = ap (drop (suc n)) (take-nil (suc n + m)) ∙ sym (take-nil m)
 drop_take (suc n) m (x ∷ l) = ap (λ (k : ℕ). drop (suc n) (take k (x ∷ l))) (suc-add n m) ∙ drop_take n m l
 
-rows_of_take : (n : ℕ) (w : List ℕ) → rows_of n (take (8 * n) w) ≡ rows_of n w
+pub rows_of_take : (n : ℕ) (w : List ℕ) → rows_of n (take (8 * n) w) ≡ rows_of n w
 unfolding rows_of
 rows_of_take zero w = refl
 rows_of_take (suc n) w =

@@ -1,11 +1,9 @@
 -- A table of words as rows of eight: a key of six words, then two words of value. Rows are sorted by their keys.
-use Rattle.std.specs.Prelude.{◌≡◌, Bool, true, false, List, [], ◌∷◌, ◌++◌, ℕ, zero, suc, ◌*◌, ltb, take, drop, get_or}
+use Rattle.std.specs.Prelude.{◌≡◌, Bool, true, false, List, [], ◌∷◌, ◌++◌, ℕ, zero, suc, ◌*◌, ltb, take, drop, get_or, Result, Ok, Err}
 use Rattle.laws.specs.Bytes.{bytes_at}
 use Rattle.laws.specs.Pick.{pick}
-use Rattle.rows.specs.declared.Order.{Order}
-use Rattle.rows.specs.declared.Order.TheVariants.{Below, Equal, Above}
-use Rattle.rows.specs.declared.Place.{Place}
-use Rattle.rows.specs.declared.Place.TheVariants.{At, Gap}
+use Rattle.std.specs.declared.cmp.Ordering.{Ordering}
+use Rattle.std.specs.declared.cmp.Ordering.TheVariants.{Less, Equal, Greater}
 
 -- the first n rows of the words
 unfoldable pub rows_of : ℕ → List ℕ → List (List ℕ)
@@ -24,23 +22,23 @@ flat (r ∷ rows) = r ++ flat rows
 unfoldable pub key : List ℕ → List ℕ
 key row = take 6 row
 
--- the first, the second or the third, as an order is Below, Equal or Above
-unfoldable pub choose {ℓ} : {A : Type ℓ} → Order → A → A → A → A
-choose Below a b c = a
+-- the first, the second or the third, as an order is Less, Equal or Greater
+unfoldable pub choose {ℓ} : {A : Type ℓ} → Ordering → A → A → A → A
+choose Less a b c = a
 choose Equal a b c = b
-choose Above a b c = c
+choose Greater a b c = c
 
 -- where a stands to b in the order of dictionaries: the first words that differ decide, and a list that ends comes first
-unfoldable pub compared : List ℕ → List ℕ → Order
+unfoldable pub compared : List ℕ → List ℕ → Ordering
 compared [] [] = Equal
-compared [] (y ∷ b) = Below
-compared (x ∷ a) [] = Above
-compared (x ∷ a) (y ∷ b) = pick (ltb x y) Below (pick (ltb y x) Above (compared a b))
+compared [] (y ∷ b) = Less
+compared (x ∷ a) [] = Greater
+compared (x ∷ a) (y ∷ b) = pick (ltb x y) Less (pick (ltb y x) Greater (compared a b))
 
 -- the first of the rows, if there is one, has a key above k
 abbrev pub Leads : List ℕ → List (List ℕ) → Type 0
 Leads k [] = Unit
-Leads k (r ∷ rows) = compared k (key r) ≡ Below
+Leads k (r ∷ rows) = compared k (key r) ≡ Less
 
 -- each key is strictly below the next
 abbrev pub Ascending : List (List ℕ) → Type 0
@@ -67,8 +65,8 @@ has_key k [] = false
 has_key k (r ∷ rows) = choose (compared (key r) k) (has_key k rows) true (has_key k rows)
 
 -- where the key k is among the rows, or is to be put
-unfoldable pub place_of : List ℕ → List (List ℕ) → Place
-place_of k rows = pick (has_key k rows) (At (below k rows)) (Gap (below k rows))
+unfoldable pub place_of : List ℕ → List (List ℕ) → Result ℕ ℕ
+place_of k rows = pick (has_key k rows) (Ok (below k rows)) (Err (below k rows))
 
 -- how many rows, from the first on, begin with a word below p
 unfoldable pub leading_below : ℕ → List (List ℕ) → ℕ

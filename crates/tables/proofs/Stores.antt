@@ -1,27 +1,39 @@
 -- What the stores of a row and the removal of leading rows answer and write, by what the code found. Assumes nothing.
-use mathlib.Core.Path.{◌≡◌, sym, ap, ◌∙◌}
-use mathlib.Core.Bool.{Bool, true, false}
-use mathlib.Core.List.{List, [], ◌∷◌, ◌++◌}
-use Prim.Native.Nat.{ℕ, suc, ◌+◌, ◌-◌, ◌*◌, ◌≤◌, ◌<◌}
+use mathlib.Core.Path.{◌≡◌, sym, ap, ap₂, ◌∙◌}
+use mathlib.Core.Bool.{true, false}
+use mathlib.Core.List.{List, ◌++◌, append_assoc}
+use Prim.Native.Nat.{ℕ, ◌+◌, ◌-◌, ◌*◌, ◌≤◌, ◌<◌}
 use native.Mathlib.Omega.{arith}
-use lib.Dec.{ltb}
-use lib.ListN.{length, get_or}
+use lib.ListN.{length, take, drop, length-take, length-drop}
+use lib.Seq.{drop-drop}
 use borrow.Author.Tests.{le-leb, lt-leb}
 use Rattle.laws.specs.Pick.{pick}
 use Rattle.laws.specs.Bytes.{bytes_at, written}
-use Rattle.rows.specs.declared.Place.TheVariants.{At, Gap}
-use Rattle.tables.specs.declared.Upserted.TheVariants.{Count, Full}
+use Rattle.std.specs.Prelude.{Some, None, Ok, Err}
 use Rattle.rows.specs.Rows.{rows_of, key, place_of, Ascending, leading_below}
 use Rattle.tables.specs.Tables.{has_room, pushed, upserted_at, upserted, counted_at, upsert_count}
-use Rattle.rows.proofs.Words.{bytes_at_words}
 use Rattle.rows.proofs.Rows.{length_rows_of}
+use Rattle.rows.proofs.Arrays.{leading_within}
+use borrow.Rule.Slice.PartMut.{put_mid}
+use Rattle.std.specs.List.{copy_within}
 use Rattle.rows.proofs.Places.{at_place, gap_place, present_row, below_within}
 
--- the key of a row of eight words, word by word
-pub key_of_row : (row : List ℕ) → length row ≡ 8
-    → get_or row 0 0 ∷ get_or row 1 0 ∷ get_or row 2 0 ∷ get_or row 3 0 ∷ get_or row 4 0 ∷ get_or row 5 0 ∷ [] ≡ key row
-unfolding key bytes_at
-key_of_row row h = sym (bytes_at_words row 0 6 (omega arith))
+-- ---- Writes, as std says them
+
+pub put_written : (s : List ℕ) (p k : ℕ) {v w : List ℕ} → v ≡ w → k ≡ length w → put_mid p k s v ≡ written s p w
+unfolding written
+put_written s p k {v} {w} q e =
+    ap (λ (l : List ℕ). take p s ++ (v ++ l)) (drop-drop k p s)
+    ∙ sym (append_assoc (take p s) v (drop (p + k) s))
+    ∙ ap₂ (λ (l : List ℕ) (n : ℕ). take p s ++ l ++ drop (p + n) s) q e
+
+pub rows_moved : (t : List ℕ) (n count to : ℕ) → n ≤ count → 8 * count ≤ length t
+    → copy_within t (8 * n) (8 * count) to ≡ written t to (bytes_at t (8 * n) (8 * (count - n)))
+unfolding written bytes_at
+rows_moved t n count to o h =
+    let m : 8 * count - 8 * n ≡ 8 * (count - n) = omega arith in
+    let l : length (take (8 * (count - n)) (drop (8 * n) t)) ≡ 8 * (count - n) = simp (length-take, length-drop) (omega arith) in
+    rw (m, l)
 
 -- ---- Room for one row more
 
@@ -43,22 +55,13 @@ pushed_full t count row h = rw (no_room (length t) count h)
 
 -- ---- Leading rows
 
-pub leading_within : (p : ℕ) (rows : List (List ℕ)) → leading_below p rows ≤ length rows
-unfolding leading_below pick
-leading_within p [] = omega arith
-leading_within p (r ∷ rows) = go (ltb (get_or r 0 0) p) (leading_within p rows)
-  where
-    go : (t : Bool) → leading_below p rows ≤ length rows → pick t (suc (leading_below p rows)) 0 ≤ suc (length rows)
-    go true h = omega arith
-    go false h = omega arith
-
 pub leading_counted : (p : ℕ) (t : List ℕ) (count : ℕ) → leading_below p (rows_of count t) ≤ count
 leading_counted p t count = omega (arith, leading_within p (rows_of count t), length_rows_of count t)
 
 -- ---- A row stored at its place
 
 module _ (t : List ℕ) (count : ℕ) (row : List ℕ) {i : ℕ} where
-  module _ (is : At i ≡ place_of (key row) (rows_of count t)) where
+  module _ (is : Ok i ≡ place_of (key row) (rows_of count t)) where
     pub at_within : Ascending (rows_of count t) → i < count
     at_within a =
         let at = at_place (key row) (rows_of count t) is in
@@ -68,11 +71,11 @@ module _ (t : List ℕ) (count : ℕ) (row : List ℕ) {i : ℕ} where
     unfolding upserted upserted_at
     at_words = ap (upserted_at t count row) is
 
-    pub at_count : Count count ≡ upsert_count t count row
+    pub at_count : Some count ≡ upsert_count t count row
     unfolding upsert_count counted_at
     at_count = ap (counted_at t count) is
 
-  module _ (is : Gap i ≡ place_of (key row) (rows_of count t)) where
+  module _ (is : Err i ≡ place_of (key row) (rows_of count t)) where
     pub gap_within : i ≤ count
     gap_within =
         omega (arith, (gap_place (key row) (rows_of count t) is).1, below_within (key row) (rows_of count t), length_rows_of count t)
@@ -82,7 +85,7 @@ module _ (t : List ℕ) (count : ℕ) (row : List ℕ) {i : ℕ} where
     unfolding upserted upserted_at pick
     gap_words h = sym (rw (room (length t) count h)) ∙ ap (upserted_at t count row) is
 
-    pub gap_count : 8 * count + 8 ≤ length t → Count (count + 1) ≡ upsert_count t count row
+    pub gap_count : 8 * count + 8 ≤ length t → Some (count + 1) ≡ upsert_count t count row
     unfolding upsert_count counted_at pick
     gap_count h = sym (rw (room (length t) count h)) ∙ ap (counted_at t count) is
 
@@ -90,6 +93,6 @@ module _ (t : List ℕ) (count : ℕ) (row : List ℕ) {i : ℕ} where
     unfolding upserted upserted_at pick
     full_words h = sym (rw (no_room (length t) count h)) ∙ ap (upserted_at t count row) is
 
-    pub full_count : length t < 8 * count + 8 → Full ≡ upsert_count t count row
+    pub full_count : length t < 8 * count + 8 → None ≡ upsert_count t count row
     unfolding upsert_count counted_at pick
     full_count h = sym (rw (no_room (length t) count h)) ∙ ap (counted_at t count) is

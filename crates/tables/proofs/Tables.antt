@@ -11,11 +11,8 @@ use lib.Seq.{drop_at, drop-drop}
 use Rattle.laws.specs.Bytes.{bytes_at, written, zeros}
 use Rattle.laws.proofs.Tests.{leb_cases}
 use Rattle.laws.proofs.Written.{length_zeros, length_written, length_bytes_at, drop_written}
-use Rattle.rows.specs.declared.Order.TheVariants.{Below, Equal, Above}
-use Rattle.rows.specs.declared.Place.{Place}
-use Rattle.rows.specs.declared.Place.TheVariants.{At, Gap}
-use Rattle.tables.specs.declared.Upserted.{Upserted}
-use Rattle.tables.specs.declared.Upserted.TheVariants.{Count, Full}
+use Rattle.std.specs.declared.cmp.Ordering.TheVariants.{Less, Equal, Greater}
+use Rattle.std.specs.Prelude.{Option, Some, None, Result, Ok, Err}
 use Rattle.rows.specs.Rows.{rows_of, flat, key, compared, choose, Leads, Ascending, below, has_key, place_of}
 use Rattle.tables.specs.Tables.{table_of, EightWords, Table, dropped, upserted, upsert_count, put_row}
 use Rattle.rows.proofs.Lexicographic.{order_cases, below_of, above_of, compared_equal, compared_self}
@@ -141,7 +138,7 @@ drop_past t p v n h fits =
 
 -- how many keys are below k, by where the first stands to it
 module _ (k x : List ℕ) (rows : List (List ℕ)) where
-  below_next : compared (key x) k ≡ Below → below k (x ∷ rows) ≡ suc (below k rows)
+  below_next : compared (key x) k ≡ Less → below k (x ∷ rows) ≡ suc (below k rows)
   unfolding below choose
   below_next b = rw b
 
@@ -149,11 +146,11 @@ module _ (k x : List ℕ) (rows : List (List ℕ)) where
   unfolding below choose
   below_here e = rw e
 
-  below_none : compared (key x) k ≡ Above → below k (x ∷ rows) ≡ below k rows
+  below_none : compared (key x) k ≡ Greater → below k (x ∷ rows) ≡ below k rows
   unfolding below choose
   below_none g = rw g
 
-  present_next : compared (key x) k ≡ Below → has_key k (x ∷ rows) ≡ has_key k rows
+  present_next : compared (key x) k ≡ Less → has_key k (x ∷ rows) ≡ has_key k rows
   unfolding has_key choose
   present_next b = rw b
 
@@ -161,12 +158,12 @@ module _ (k x : List ℕ) (rows : List (List ℕ)) where
   unfolding has_key choose
   present_here e = rw e
 
-  present_none : compared (key x) k ≡ Above → has_key k (x ∷ rows) ≡ has_key k rows
+  present_none : compared (key x) k ≡ Greater → has_key k (x ∷ rows) ≡ has_key k rows
   unfolding has_key choose
   present_none g = rw g
 
 module _ (row x : List ℕ) (rows : List (List ℕ)) where
-  pub put_before : compared (key row) (key x) ≡ Below → put_row row (x ∷ rows) ≡ row ∷ x ∷ rows
+  pub put_before : compared (key row) (key x) ≡ Less → put_row row (x ∷ rows) ≡ row ∷ x ∷ rows
   unfolding put_row choose
   put_before h = rw h
 
@@ -174,7 +171,7 @@ module _ (row x : List ℕ) (rows : List (List ℕ)) where
   unfolding put_row choose
   put_here h = rw h
 
-  pub put_later : compared (key row) (key x) ≡ Above → put_row row (x ∷ rows) ≡ x ∷ put_row row rows
+  pub put_later : compared (key row) (key x) ≡ Greater → put_row row (x ∷ rows) ≡ x ∷ put_row row rows
   unfolding put_row choose
   put_later h = rw h
 
@@ -221,7 +218,7 @@ put_absent row (x ∷ rows) a p =
     (⊎_elim
     (λ e. absurd (true_false (sym (present_here (key row) x rows e) ∙ p)))
     (λ g.
-    let before : compared (key row) (key x) ≡ Below = below_of (key x) (key row) g in
+    let before : compared (key row) (key x) ≡ Less = below_of (key x) (key row) g in
     let none : below (key row) (x ∷ rows) ≡ 0 =
     below_none (key row) x rows g
     ∙ (leads_none (key row) rows (leads_trans (key row) (key x) rows before a.0) a.1).0 in
@@ -229,12 +226,12 @@ put_absent row (x ∷ rows) a p =
     (order_cases (compared (key x) (key row)))
 
 -- What a sorted store answers and leaves: the rows with the row among them, or no room for them.
-abbrev pub Stored : Upserted → List ℕ → List (List ℕ) → Type 0
-Stored (Count m) t rows = Table t m rows
-Stored Full t rows = length t < 8 * length rows
+abbrev pub Stored : Option ℕ → List ℕ → List (List ℕ) → Type 0
+Stored (Some m) t rows = Table t m rows
+Stored None t rows = length t < 8 * length rows
 
 module _ {t : List ℕ} {n : ℕ} {rows : List (List ℕ)} (h : Table t n rows) (ascends : Ascending rows) (row : List ℕ) (eight : length row ≡ 8) where
-  upsert_at : (i : ℕ) → place_of (key row) (rows_of n t) ≡ At i → Stored (upsert_count t n row) (upserted t n row) (put_row row rows)
+  upsert_at : (i : ℕ) → place_of (key row) (rows_of n t) ≡ Ok i → Stored (upsert_count t n row) (upserted t n row) (put_row row rows)
   upsert_at i is =
       let within : i < n = at_within t n row (sym is) (subst Ascending (sym (table_rows h)) ascends) in
       let at = at_place (key row) (rows_of n t) (sym is) in
@@ -247,11 +244,11 @@ module _ {t : List ℕ} {n : ℕ} {rows : List (List ℕ)} (h : Table t n rows) 
       drop_past t (8 * i) row (8 * n) (omega arith) (omega (arith, h.fits))
       ∙ table_behind h
       ∙ ap (λ (k : ℕ). zeros (k - 8 * n)) (sym long) in
-      subst (λ (u : Upserted). Stored u (upserted t n row) (put_row row rows)) (at_count t n row (sym is))
+      subst (λ (u : Option ℕ). Stored u (upserted t n row) (put_row row rows)) (at_count t n row (sym is))
       (subst (λ (w : List ℕ). Table w n (put_row row rows)) (at_words t n row (sym is))
       (table_of_lem (written t (8 * i) row) n (put_row row rows) (omega (arith, h.fits)) rows_are behind))
 
-  upsert_gap : (i : ℕ) → place_of (key row) (rows_of n t) ≡ Gap i → Stored (upsert_count t n row) (upserted t n row) (put_row row rows)
+  upsert_gap : (i : ℕ) → place_of (key row) (rows_of n t) ≡ Err i → Stored (upsert_count t n row) (upserted t n row) (put_row row rows)
   upsert_gap i is =
       let gap = gap_place (key row) (rows_of n t) (sym is) in
       let absent : has_key (key row) rows ≡ false = sym (ap (has_key (key row)) (table_rows h)) ∙ gap.0 in
@@ -262,7 +259,7 @@ module _ {t : List ℕ} {n : ℕ} {rows : List (List ℕ)} (h : Table t n rows) 
       ⊎_elim
       (λ y. joined y.1 put within)
       (λ z.
-      subst (λ (u : Upserted). Stored u (upserted t n row) (put_row row rows)) (full_count t n row (sym is) z.1)
+      subst (λ (u : Option ℕ). Stored u (upserted t n row) (put_row row rows)) (full_count t n row (sym is) z.1)
       (omega (arith, z.1, h.count, ap length put, length-append (take i rows) (row ∷ drop i rows), ap length (take-append-drop i rows), length-append (take i rows) (drop i rows), ap length (full_words t n row (sym is) z.1))))
       (leb_cases (8 * n + 8) (length t))
     where
@@ -273,7 +270,7 @@ module _ {t : List ℕ} {n : ℕ} {rows : List (List ℕ)} (h : Table t n rows) 
           let lv : length v ≡ 8 + 8 * (n - i) =
           omega (arith, length-append row (bytes_at t (8 * i) (8 * (n - i))), length_bytes_at t (8 * i) (8 * (n - i)) (omega arith)) in
           let long : length (written t (8 * i) v) ≡ length t = length_written t (8 * i) v (omega arith) in
-          subst (λ (u : Upserted). Stored u (upserted t n row) (put_row row rows)) (gap_count t n row (sym is) fits)
+          subst (λ (u : Option ℕ). Stored u (upserted t n row) (put_row row rows)) (gap_count t n row (sym is) fits)
           (subst (λ (w : List ℕ). Table w (n + 1) (put_row row rows)) (gap_words t n row (sym is) fits)
           (table_of_lem (written t (8 * i) v) (n + 1) (put_row row rows) (omega arith)
           (rows_of_inserted t n i row within fits eight
@@ -286,6 +283,6 @@ module _ {t : List ℕ} {n : ℕ} {rows : List (List ℕ)} (h : Table t n rows) 
   pub upsert_table : Stored (upsert_count t n row) (upserted t n row) (put_row row rows)
   upsert_table = from (place_of (key row) (rows_of n t)) refl
     where
-      from : (p : Place) → place_of (key row) (rows_of n t) ≡ p → Stored (upsert_count t n row) (upserted t n row) (put_row row rows)
-      from (At i) is = upsert_at i is
-      from (Gap i) is = upsert_gap i is
+      from : (p : Result ℕ ℕ) → place_of (key row) (rows_of n t) ≡ p → Stored (upsert_count t n row) (upserted t n row) (put_row row rows)
+      from (Ok i) is = upsert_at i is
+      from (Err i) is = upsert_gap i is

@@ -1,11 +1,7 @@
 -- Tables that a caller lends for rows: the rows that are counted stand first, one after the other.
-use Rattle.std.specs.Prelude.{◌≡◌, Bool, List, [], ◌∷◌, ◌++◌, ℕ, ◌+◌, ◌-◌, ◌*◌, ◌≤◌, leb, length}
+use Rattle.std.specs.Prelude.{◌≡◌, Bool, List, [], ◌∷◌, ◌++◌, ℕ, ◌+◌, ◌-◌, ◌*◌, ◌≤◌, leb, length, Option, Some, None, Result, Ok, Err}
 use Rattle.laws.specs.Bytes.{bytes_at, written, zeros}
 use Rattle.laws.specs.Pick.{pick}
-use Rattle.rows.specs.declared.Place.{Place}
-use Rattle.rows.specs.declared.Place.TheVariants.{At, Gap}
-use Rattle.tables.specs.declared.Upserted.{Upserted}
-use Rattle.tables.specs.declared.Upserted.TheVariants.{Count, Full}
 use Rattle.rows.specs.Rows.{rows_of, flat, key, compared, choose, place_of}
 
 -- the n words of an answer table: its rows, and zeros behind them
@@ -37,20 +33,20 @@ unfoldable pub dropped : List ℕ → ℕ → ℕ → List ℕ
 dropped t count n = written t 0 (bytes_at t (8 * n) (8 * (count - n)) ++ zeros (8 * n))
 
 -- a row stored in the place of the row with its key, or put at the place of its key where there is room
-unfoldable pub upserted_at : List ℕ → ℕ → List ℕ → Place → List ℕ
-upserted_at t count row (At i) = written t (8 * i) row
-upserted_at t count row (Gap i) =
+unfoldable pub upserted_at : List ℕ → ℕ → List ℕ → Result ℕ ℕ → List ℕ
+upserted_at t count row (Ok i) = written t (8 * i) row
+upserted_at t count row (Err i) =
     pick (has_room (length t) count) (written t (8 * i) (row ++ bytes_at t (8 * i) (8 * (count - i)))) t
 
 unfoldable pub upserted : List ℕ → ℕ → List ℕ → List ℕ
 upserted t count row = upserted_at t count row (place_of (key row) (rows_of count t))
 
--- how many rows there are then
-unfoldable pub counted_at : List ℕ → ℕ → Place → Upserted
-counted_at t count (At i) = Count count
-counted_at t count (Gap i) = pick (has_room (length t) count) (Count (count + 1)) Full
+-- how many rows there are then, where there is room
+unfoldable pub counted_at : List ℕ → ℕ → Result ℕ ℕ → Option ℕ
+counted_at t count (Ok i) = Some count
+counted_at t count (Err i) = pick (has_room (length t) count) (Some (count + 1)) None
 
-unfoldable pub upsert_count : List ℕ → ℕ → List ℕ → Upserted
+unfoldable pub upsert_count : List ℕ → ℕ → List ℕ → Option ℕ
 upsert_count t count row = counted_at t count (place_of (key row) (rows_of count t))
 
 -- the same as rows: a row joins ascending rows at its place, or takes the place of the row with its key

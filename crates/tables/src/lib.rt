@@ -7,32 +7,11 @@ ghost use Rattle.laws.specs.Bytes.{bytes_at, written, zeros};
 ghost use Rattle.rows.specs.Rows.{rows_of, Ascending, leading_below};
 ghost use Rattle.tables.specs.Tables.{has_room, pushed, dropped, upserted, upsert_count};
 
-use rows::Place;
-
-// How many rows there are once a row is stored, or that there is no room for it.
-#[derive(Clone, Copy)]
-pub enum Upserted {
-    Count(usize),
-    Full,
-}
-
-// Zeros the n words from `at` on.
-fn zero_words(t: &mut [u64], at: usize, n: usize)
-    requires { at + n ≤ length t.old }
-    ensures { t.new ≡ written t.old at (zeros n) }
-{
-    let mut j = 0;
-    while j < n {
-        t[at + j] = 0;
-        j += 1;
-    }
-}
-
 // Zeros the whole table.
 pub fn clear(t: &mut [u64])
     ensures { t.new ≡ zeros (length t.old) }
 {
-    zero_words(t, 0, t.len());
+    t.fill(0);
 }
 
 // Stores a row in the place of row i.
@@ -40,37 +19,7 @@ pub fn put_row(t: &mut [u64], i: usize, row: [u64; 8])
     requires { 8 * i + 8 ≤ length t.old }
     ensures { t.new ≡ written t.old (8 * i) row }
 {
-    let at = 8 * i;
-    let mut j = 0;
-    while j < 8 {
-        t[at + j] = row[j];
-        j += 1;
-    }
-}
-
-// Moves the n words from `at` on up by one row, the last one first: each is read before it is
-// overwritten.
-fn move_up(t: &mut [u64], at: usize, n: usize)
-    requires { at + n + 8 ≤ length t.old }
-    ensures { t.new ≡ written t.old (at + 8) (bytes_at t.old at n) }
-{
-    let mut j = n;
-    while 0 < j {
-        j -= 1;
-        t[at + j + 8] = t[at + j];
-    }
-}
-
-// Moves the n words from `from` on to the start of the table, the first one first.
-fn move_down(t: &mut [u64], from: usize, n: usize)
-    requires { from + n ≤ length t.old }
-    ensures { t.new ≡ written t.old 0 (bytes_at t.old from n) }
-{
-    let mut j = 0;
-    while j < n {
-        t[j] = t[from + j];
-        j += 1;
-    }
+    t[8 * i..8 * i + 8].copy_from_slice(&row);
 }
 
 // Puts a row before row i: the rows from i on move up by one.
@@ -79,7 +28,7 @@ pub fn insert_row(t: &mut [u64], count: usize, i: usize, row: [u64; 8])
     ensures { t.new ≡ written t.old (8 * i)
         (row ++ bytes_at t.old (8 * i) (8 * (count - i))) }
 {
-    move_up(t, 8 * i, 8 * (count - i));
+    t.copy_within(8 * i..8 * count, 8 * i + 8);
     put_row(t, i, row);
 }
 
@@ -89,8 +38,8 @@ pub fn drop_rows(t: &mut [u64], count: usize, n: usize)
     ensures { t.new ≡ written t.old 0
         (bytes_at t.old (8 * n) (8 * (count - n)) ++ zeros (8 * n)) }
 {
-    move_down(t, 8 * n, 8 * (count - n));
-    zero_words(t, 8 * (count - n), 8 * n);
+    t.copy_within(8 * n..8 * count, 0);
+    t[8 * (count - n)..8 * count].fill(0);
 }
 
 // Stores a row behind the last one, and answers whether there is room for it.
@@ -117,24 +66,24 @@ pub fn drop_before(t: &mut [u64], count: usize, p: u64) -> usize
     count - n
 }
 
-// Stores a row among ascending rows: in the place of the row with its key, or at the place of its key.
-pub fn upsert_row(t: &mut [u64], count: usize, row: [u64; 8]) -> Upserted
+// Stores a row among ascending rows: in the place of the row with its key, or at the place of its key. Answers
+// how many rows there are then, or `None` where there is no room.
+pub fn upsert_row(t: &mut [u64], count: usize, row: [u64; 8]) -> Option<usize>
     requires { (8 * count ≤ length t.old) × Ascending (rows_of count t.old) }
     ensures value { result ≡ upsert_count t.old count row }
     ensures t_after { t.new ≡ upserted t.old count row }
 {
-    let k = [row[0], row[1], row[2], row[3], row[4], row[5]];
-    match rows::find(t, count, k) {
-        Place::At(i) => {
+    match rows::find(t, count, rows::key(&row)) {
+        Ok(i) => {
             put_row(t, i, row);
-            Upserted::Count(count)
+            Some(count)
         }
-        Place::Gap(i) => {
+        Err(i) => {
             if t.len() - 8 * count < 8 {
-                return Upserted::Full;
+                return None;
             }
             insert_row(t, count, i, row);
-            Upserted::Count(count + 1)
+            Some(count + 1)
         }
     }
 }

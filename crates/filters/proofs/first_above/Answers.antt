@@ -7,7 +7,7 @@ use Rattle.filters.proofs.first_above.Goals as goal
 pub returns-then-round-eq-HIGHEST : goal.returns-then-round-eq-HIGHEST
 returns-then-round-eq-HIGHEST c =
     let a = c.args in
-    above_last a.index.now a.count c.requires.0 a.round (λ i. omega (arith, c.if-round-eq-HIGHEST.true, c.shared_slice_known-1.given i))
+    above_last a.index.now a.count c.requires.0 a.round (λ i. omega (arith, c.if-round-eq-HIGHEST.true, c.type_inv.index i))
 
 pub returns : goal.returns
 returns c =

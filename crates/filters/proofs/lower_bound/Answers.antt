@@ -3,12 +3,8 @@ use mathlib.Core.Path.{sym, ◌∙◌}
 use Rattle.rows.proofs.Places.{at_place, gap_place}
 use Rattle.filters.proofs.lower_bound.Goals as goal
 
-pub returns-in-At : goal.returns-in-At
-returns-in-At c =
-    let a = c.args in
-    (at_place a.k _ (sym c.in-At.is ∙ c.find.ensures)).1
+pub returns-in-Ok : goal.returns-in-Ok
+returns-in-Ok c = (at_place c.args.k _ (sym c.in-Ok.is ∙ c.find.ensures)).1
 
-pub returns-in-Gap : goal.returns-in-Gap
-returns-in-Gap c =
-    let a = c.args in
-    (gap_place a.k _ (sym c.in-Gap.is ∙ c.find.ensures)).1
+pub returns-in-Err : goal.returns-in-Err
+returns-in-Err c = (gap_place c.args.k _ (sym c.in-Err.is ∙ c.find.ensures)).1

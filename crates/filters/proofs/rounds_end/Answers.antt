@@ -1,4 +1,4 @@
--- `filters::rounds_end` meets its contract: the loop passes the rows of as many rounds. The measure is the number of rows left. Assumes nothing.
+-- `filters::rounds_end` meets its contract: the loop passes the rows of as many rounds. Assumes nothing.
 use mathlib.Core.Path.{sym, ap, ◌∙◌}
 use Prim.Native.Nat.{◌+◌}
 use native.Mathlib.Omega.{arith}
@@ -6,6 +6,7 @@ use Rattle.filters.specs.Segments.{rounds_long}
 use Rattle.filters.proofs.Keeping.{between_rows}
 use Rattle.filters.proofs.Rounds.{passing_start, passing_done, passing_full, passing_begins, passing_goes}
 use Rattle.filters.proofs.rounds_end.Goals as goal
+use Rattle.filters.proofs.rounds_end.Goals.{then-begins_round+else-limit-seen, else-begins_round}
 
 pub loop-i-init : goal.loop-i-init
 loop-i-init c =
@@ -20,18 +21,18 @@ begins_round-requires c =
 pub returns-then-limit-seen : goal.returns-then-limit-seen
 returns-then-limit-seen c =
     let a = c.args in
-    passing_full a.index.now a.count a.from a.limit c.loop-i.invariant c.loop-i-test.true (sym c.begins_round.ensures ∙ c.if-begins_round.true) c.if-limit-seen.true
+    passing_full a.index.now a.count a.from a.limit c.loop-i.invariant (omega arith) (sym c.begins_round.ensures ∙ c.if-begins_round.true) c.if-limit-seen.true
     ∙ ap (λ l. a.from + rounds_long a.limit l) (sym (between_rows a.from a.count a.index.now))
-
-pub loop-i-preserved-then-begins_round : goal.loop-i-preserved-then-begins_round
-loop-i-preserved-then-begins_round c =
-    let a = c.args in
-    passing_begins a.index.now a.count a.from a.limit c.loop-i.invariant c.loop-i-test.true (sym c.begins_round.ensures ∙ c.if-begins_round.true) c.if-limit-seen.false
 
 pub loop-i-preserved : goal.loop-i-preserved
 loop-i-preserved c =
     let a = c.args in
-    passing_goes a.index.now a.count a.from a.limit c.loop-i.invariant c.loop-i-test.true (sym c.begins_round.ensures ∙ c.if-begins_round.false)
+    elim c.if-begins_round.branch [
+      | then-begins_round+else-limit-seen w ↦
+          rw w.seen-is (passing_begins a.index.now a.count a.from a.limit c.loop-i.invariant (omega arith) (sym c.begins_round.ensures ∙ w.if-begins_round.true) w.if-limit-seen.false)
+      | else-begins_round w ↦
+          rw w.seen-is (passing_goes a.index.now a.count a.from a.limit c.loop-i.invariant (omega arith) (sym c.begins_round.ensures ∙ w.if-begins_round.false))
+    ]
 
 pub returns : goal.returns
 returns c =

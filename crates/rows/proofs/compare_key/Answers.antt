@@ -6,14 +6,14 @@ use Rattle.rows.proofs.compare_key.Goals as goal
 pub loop-j-init : goal.loop-j-init
 loop-j-init c = comparing_start c.args.t.now c.args.i c.args.k
 
-pub returns-then-x-y : goal.returns-then-x-y
-returns-then-x-y c = comparing_below c.loop-j.invariant (omega arith) (omega arith) (omega arith) c.if-x-y.true
+pub returns-then-t-at : goal.returns-then-t-at
+returns-then-t-at c = comparing_below c.loop-j.invariant (omega arith) (omega arith) (omega arith) (omega arith)
 
-pub returns-then-y-x : goal.returns-then-y-x
-returns-then-y-x c = comparing_above c.loop-j.invariant (omega arith) (omega arith) (omega arith) c.if-y-x.true
+pub returns-then-k-j : goal.returns-then-k-j
+returns-then-k-j c = comparing_above c.loop-j.invariant (omega arith) (omega arith) (omega arith) (omega arith)
 
 pub loop-j-preserved : goal.loop-j-preserved
-loop-j-preserved c = comparing_next c.loop-j.invariant (omega arith) (omega arith) (omega arith) c.if-x-y.false c.if-y-x.false
+loop-j-preserved c = comparing_next c.loop-j.invariant (omega arith) (omega arith) (omega arith) (omega arith) (omega arith)
 
 pub returns : goal.returns
 returns c = comparing_done c.loop-j.invariant (omega arith) (omega arith) (omega arith)

@@ -1,16 +1,21 @@
 -- `rows::position_of_first_from` meets its contract. Assumes nothing.
-use native.Mathlib.Omega.{arith}
-use Rattle.rows.proofs.Leading.{leading_start, leading_next, leading_stop, leading_done}
+use mathlib.Core.Path.{sym, ap, ◌∙◌}
+use borrow.Author.Tests.{tests}
+use lib.Dec.{leb}
+use lib.ListN.{length, get_or}
+use Rattle.std.proofs.Common.{rules}
+use Rattle.std.specs.Option.{unwrap_or}
+use Rattle.std.proofs.lemmas.Iterator.{YieldsList-from_slice}
+use Rattle.std.proofs.lemmas.Iterator.Search.{position_from_yields_List}
+use Rattle.rows.specs.Rows.{leading_below}
+use Rattle.rows.proofs.Rows.{length_rows_of}
+use Rattle.rows.proofs.Arrays.{leading_position}
 use Rattle.rows.proofs.position_of_first_from.Goals as goal
 
-pub loop-i-init : goal.loop-i-init
-loop-i-init c = (omega arith, leading_start c.args.p c.args.t.now c.args.count)
-
-pub returns-then-p-t : goal.returns-then-p-t
-returns-then-p-t c = omega (arith, leading_stop c.args.p c.args.t.now c.loop-i.i c.args.count (omega arith) (omega arith))
-
-pub loop-i-preserved : goal.loop-i-preserved
-loop-i-preserved c = omega (arith, leading_next c.args.p c.args.t.now c.loop-i.i c.args.count (omega arith) (omega arith))
-
 pub returns : goal.returns
-returns c = omega (arith, leading_done c.args.p c.args.t.now c.loop-i.i c.args.count (omega arith))
+returns c =
+    let e = position_from_yields_List (λ row. leb c.args.p (get_or row 0 0)) _ _ c.position.result c.position.ensures.ran (YieldsList-from_slice _ c.iter.ensures.rest) (λ x b q k. search (rules, tests)) in
+    c.unwrap_or.ensures
+    ∙ ap (λ o. unwrap_or o c.args.count) e
+    ∙ leading_position c.args.p _ c.args.count (sym (ap length c.rows_of-rows.ensures ∙ length_rows_of c.args.count c.args.t.now))
+    ∙ ap (leading_below c.args.p) c.rows_of-rows.ensures

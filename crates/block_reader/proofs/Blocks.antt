@@ -13,13 +13,12 @@ use Rattle.laws.specs.Parse as parse
 use Rattle.laws.proofs.Written.{length_bytes_at}
 use Rattle.types.specs.Records.{BlockValue, block}
 use Rattle.commits.specs.Records.{OwnBlockValue, own_block}
-use Rattle.commits.specs.Answers.{own_block_answer}
 use Rattle.wal_reader.specs.Read as read
 use Rattle.wal_reader.specs.Read.{found, read_at}
 use Rattle.wal_reader.specs.Answers.{entry_of, found_of}
 use Rattle.block_reader.specs.declared.ReadBlock.{ReadBlock}
 use Rattle.block_reader.specs.Reading.{BlockRead, refused, got, plain_block, own_block_at, block_in, block_at, read_of}
-use Rattle.block_reader.proofs.Reading.{own_long, read_within, read_found, block_at_numbered, told_got}
+use Rattle.block_reader.proofs.Reading.{own_eight, read_within, read_found, block_at_numbered, told_got}
 
 -- ---- What holds of every refusal, and of the block of every payload that lies in the image, holds of what is read
 
@@ -62,10 +61,6 @@ module _ (P : BlockRead → Type 0) (none : (n : ℕ) → P (refused n)) where
             (entry_holds a.start a.tag (length a.payload) (read_within k s used p {e = entry_of a} (sym (ap found_of is))).0)
 
 -- ---- Where its bytes end
-
-pub own_eight : (payload : List ℕ) {o : OwnBlockValue} {e : ℕ} → own_block payload 0 ≡ parse.Res.got o e → 8 ≤ length payload
-unfolding answer
-own_eight payload is = own_long payload refl (ap (λ (x : Res OwnBlockValue). (own_block_answer 0 x).ok) is)
 
 abbrev EndsBy : ℕ → BlockRead → Type 0
 EndsBy m (refused n) = Unit {0}

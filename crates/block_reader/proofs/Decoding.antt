@@ -18,7 +18,8 @@ use Rattle.commits.specs.Records.{OwnBlockValue, own_block}
 use Rattle.roundtrip.proofs.Inverse.{Spans}
 use Rattle.roundtrip.proofs.Blocks.{block_inverse}
 use Rattle.block_reader.specs.Reading.{BlockRead, refused, got, block_at}
-use Rattle.block_reader.proofs.Blocks.{own_eight, read_holds}
+use Rattle.block_reader.proofs.Reading.{own_eight}
+use Rattle.block_reader.proofs.Blocks.{read_holds}
 
 -- the block of an own block decodes where it stands
 behind_eight : (t : List ℕ) → AllBytes t → {o : OwnBlockValue} {e : ℕ} → own_block t 0 ≡ parse.Res.got o e

@@ -10,14 +10,16 @@ use borrow.Author.Tests.{eq-eqb, ne_eqb}
 use Rattle.laws.specs.Pick.{pick}
 use Rattle.laws.specs.Bytes.{bytes_at}
 use Rattle.laws.specs.Parse.{Res, bad, answer}
-use Rattle.laws.proofs.Parses.{found_none, found_some, answered, then_found, number_found}
-use Rattle.types.specs.Records.{BlockValue, block}
-use Rattle.blocks.specs.declared.DecodedBlock.{DecodedBlock}
-use Rattle.blocks.specs.Answers.{no_block, block_answer}
-use Rattle.blocks.proofs.Found.{block_bad}
-use Rattle.commits.specs.declared.DecodedOwnBlock.{DecodedOwnBlock}
+use Rattle.laws.proofs.Parses.{then_found, number_found}
+use Rattle.std.proofs.Common.{Some, None}
+use Rattle.bincode.specs.Answers.{decoded_as}
+use Rattle.bincode.proofs.Found.{told_none, told_as}
+use Rattle.types.specs.Records.{block}
+use Rattle.blocks.specs.declared.StatementBlock.{StatementBlock}
+use Rattle.blocks.specs.Answers.{statement_block}
+use Rattle.commits.specs.declared.OwnBlockData.{OwnBlockData}
 use Rattle.commits.specs.Records.{OwnBlockValue, own_block}
-use Rattle.commits.specs.Answers.{no_own_block, own_block_answer}
+use Rattle.commits.specs.Answers.{own_block_of}
 use Rattle.wal_position.specs.Checks.{log_check, unless}
 use Rattle.wal_reader.specs.Entries.{Entry, end_of}
 use Rattle.wal_reader.specs.Look.{Look}
@@ -37,37 +39,38 @@ use Rattle.block_reader.specs.Reading.{read_of, BlockRead, refused, got, plain_b
 -- ---- What the decoders found
 
 module _ (at : ℕ) (payload : List ℕ) where
-  pub plain_undecoded : {d : DecodedBlock} → d ≡ block_answer 0 (block payload 0) → d.ok ≡ false → refused 9 ≡ plain_block at payload
+  pub plain_undecoded : None ≡ decoded_as (λ b e. statement_block 0 b) (block payload 0) → refused 9 ≡ plain_block at payload
   unfolding plain_block answer
-  plain_undecoded h t = sym (rw (block_bad 0 (block payload 0) h t))
+  plain_undecoded h = sym (rw (told_none _ (block payload 0) h))
 
-  pub plain_decoded : {d : DecodedBlock} → d ≡ block_answer 0 (block payload 0) → d.ok ≡ true
-      → got d.block.reference at (length payload) ≡ plain_block at payload
-  unfolding plain_block
-  plain_decoded h t =
-      answered no_block _ (refused 9) (λ (b : BlockValue) (e : ℕ). got b.reference at (length payload)) (λ r. r.ok) refl
-      (λ (d : DecodedBlock). got d.block.reference at (length payload)) (λ b e. refl) (block payload 0) h t
+  pub plain_decoded : {d : StatementBlock} {e : ℕ} → Some (d, e) ≡ decoded_as (λ b e. statement_block 0 b) (block payload 0)
+      → got d.reference at (length payload) ≡ plain_block at payload
+  unfolding plain_block answer
+  plain_decoded h =
+      let t = told_as _ (block payload 0) h in
+      rw t.1 (ap (λ (d : StatementBlock). got d.reference at (length payload)) t.2)
 
-  pub own_undecoded : {d : DecodedOwnBlock} → d ≡ own_block_answer 0 (own_block payload 0) → d.ok ≡ false → refused 10 ≡ own_block_at at payload
+  pub own_undecoded : None ≡ decoded_as (λ o e. own_block_of 0 o) (own_block payload 0) → refused 10 ≡ own_block_at at payload
   unfolding own_block_at answer
-  own_undecoded h t = sym (rw (found_none no_own_block _ (λ r. r.ok) (λ o e. refl) (own_block payload 0) h t))
+  own_undecoded h = sym (rw (told_none _ (own_block payload 0) h))
 
-  pub own_decoded : {d : DecodedOwnBlock} → d ≡ own_block_answer 0 (own_block payload 0) → d.ok ≡ true
-      → got d.own_block.block.reference (at + 8) (length payload - 8) ≡ own_block_at at payload
-  unfolding own_block_at
-  own_decoded h t =
-      answered no_own_block _ (refused 10) (λ (o : OwnBlockValue) (e : ℕ). got o.block.reference (at + 8) (length payload - 8))
-      (λ r. r.ok) refl
-      (λ (d : DecodedOwnBlock). got d.own_block.block.reference (at + 8) (length payload - 8)) (λ o e. refl) (own_block payload 0) h t
+  pub own_decoded : {d : OwnBlockData} {e : ℕ} → Some (d, e) ≡ decoded_as (λ o e. own_block_of 0 o) (own_block payload 0)
+      → got d.block.reference (at + 8) (length payload - 8) ≡ own_block_at at payload
+  unfolding own_block_at answer
+  own_decoded h =
+      let t = told_as _ (own_block payload 0) h in
+      rw t.1 (ap (λ (d : OwnBlockData). got d.block.reference (at + 8) (length payload - 8)) t.2)
 
 -- an own block has the 8 bytes of its next entry
-pub own_long : (payload : List ℕ) {d : DecodedOwnBlock} → d ≡ own_block_answer 0 (own_block payload 0) → d.ok ≡ true → 8 ≤ length payload
+pub own_eight : (payload : List ℕ) {o : OwnBlockValue} {e : ℕ} → own_block payload 0 ≡ Res.got o e → 8 ≤ length payload
 unfolding own_block
-own_long payload h t =
-    let own = found_some no_own_block _ (λ r. r.ok) refl (λ r. r.end) (λ o e. refl) (own_block payload 0) h t in
-    let next = then_found _ own.1 in
+own_eight payload is =
+    let next = then_found _ is in
     let counted = number_found 8 payload 0 next.2 in
     omega (arith, counted.end, counted.within)
+
+pub own_long : (payload : List ℕ) {d : OwnBlockData} {e : ℕ} → Some (d, e) ≡ decoded_as (λ o e. own_block_of 0 o) (own_block payload 0) → 8 ≤ length payload
+own_long payload h = own_eight payload (told_as _ (own_block payload 0) h).1
 
 -- ---- The block of an entry, by its tag
 

@@ -1,10 +1,9 @@
 -- Reading a block. Document 01, the order of checks: "A query .. for each block it reads, in answer order, a read's numbers, 8, and 9 or
 -- 10".
-use Rattle.std.specs.Prelude.{List, ℕ, ◌+◌, ◌-◌, eqb, length}
+use Rattle.std.specs.Prelude.{List, ℕ, ◌+◌, ◌-◌, eqb, length, replicate}
 use Rattle.laws.specs.Pick.{pick}
 use Rattle.laws.specs.Parse.{answer}
 use Rattle.types.specs.declared.BlockReference.{BlockReference}
-use Rattle.types.specs.Answers.{zero_reference}
 use Rattle.types.specs.Records.{BlockValue, block}
 use Rattle.commits.specs.Records.{OwnBlockValue, own_block}
 use Rattle.wal_reader.specs.Entries.{Entry}
@@ -37,6 +36,10 @@ block_at k s used p = from (read_at k s used p)
     from : read.Read → BlockRead
     from (read.Read.refused n) = refused n
     from (found a) = block_in a
+
+-- stands beside a refusal's number
+abbrev pub zero_reference : BlockReference
+zero_reference = record { authority = 0; round = 0; digest = record { 0 = replicate 32 0 } }
 
 -- the answer of the call
 unfoldable pub read_of : BlockRead → ReadBlock

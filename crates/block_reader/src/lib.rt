@@ -10,6 +10,10 @@ ghost use Rattle.wal_reader.specs.Answers.{entry_named};
 ghost use Rattle.block_reader.specs.Reading.{plain_block, own_block_at, block_in, block_at, read_of};
 ghost use Rattle.block_reader.specs.Reading as reading;
 
+use bincode::Decode;
+use blocks::StatementBlock;
+use commits::OwnBlockData;
+use crypto::BlockDigest;
 use types::BlockReference;
 use wal_position::WalPosition;
 use wal_reader::{Found, WalEntry};
@@ -28,7 +32,11 @@ fn no_block(number: u8) -> ReadBlock
 {
     ReadBlock {
         number,
-        reference: types::ZERO_REFERENCE,
+        reference: BlockReference {
+            authority: 0,
+            round: 0,
+            digest: BlockDigest([0; 32]),
+        },
         at: 0,
         len: 0,
     }
@@ -42,30 +50,25 @@ fn block_of(image: &[u8], entry: WalEntry) -> ReadBlock
 {
     let from = entry.position.0 as usize + 16;
     let to = from + entry.len as usize;
-    if entry.tag == 1 {
-        return plain_block(&image[from..to], from);
+    match entry.tag {
+        1 => plain_block(&image[from..to], from),
+        3 => own_block(&image[from..to], from),
+        _ => no_block(8),
     }
-    if entry.tag == 3 {
-        return own_block(&image[from..to], from);
-    }
-    no_block(8)
 }
 
 // The block of a tag 1 entry whose payload stands at `at`.
 fn plain_block(payload: &[u8], at: usize) -> ReadBlock
     ensures { result ≡ read_of (plain_block at payload.now) }
 {
-    let d = blocks::decode_block(payload, 0);
-    if !d.ok {
-        return no_block(9);
-    }
-    let b = d.block;
-    let reference = b.reference;
-    ReadBlock {
-        number: 0,
-        reference,
-        at,
-        len: payload.len(),
+    match StatementBlock::decode(payload, 0) {
+        None => no_block(9),
+        Some((block, _)) => ReadBlock {
+            number: 0,
+            reference: block.reference,
+            at,
+            len: payload.len(),
+        },
     }
 }
 
@@ -74,18 +77,14 @@ fn own_block(payload: &[u8], at: usize) -> ReadBlock
     requires { at < 2 ^ 62 }
     ensures { result ≡ read_of (own_block_at at payload.now) }
 {
-    let d = commits::decode_own_block(payload, 0);
-    if !d.ok {
-        return no_block(10);
-    }
-    let o = d.own_block;
-    let b = o.block;
-    let reference = b.reference;
-    ReadBlock {
-        number: 0,
-        reference,
-        at: at + 8,
-        len: payload.len() - 8,
+    match OwnBlockData::decode(payload, 0) {
+        None => no_block(10),
+        Some((own_block, _)) => ReadBlock {
+            number: 0,
+            reference: own_block.block.reference,
+            at: at + 8,
+            len: payload.len() - 8,
+        },
     }
 }
 
@@ -93,8 +92,7 @@ fn own_block(payload: &[u8], at: usize) -> ReadBlock
 pub fn read_block(k: u64, image: &[u8], used: u64, position: WalPosition) -> ReadBlock
     ensures { result ≡ read_of (block_at k image.now used position.0) }
 {
-    let found = wal_reader::read(k, image, used, position);
-    match found {
+    match wal_reader::read(k, image, used, position) {
         Found::Refused(number) => no_block(number),
         Found::Entry(entry) => block_of(image, entry),
     }

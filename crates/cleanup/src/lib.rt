@@ -27,17 +27,13 @@ fn unload_below_round(index: &mut [u64], count: usize, t: RoundNumber) -> u64
         (flat (map (unload t) (rows_of count index.old))) }
 {
     let mut unloaded = 0;
-    let mut i = 0;
-    while i < count {
+    for i in 0..count {
         if t < index[8 * i] {
             return unloaded;
         }
-        if index[8 * i + 7] == 0 {
-            i += 1;
-        } else {
+        if index[8 * i + 7] != 0 {
             index[8 * i + 7] = 0;
             unloaded += 1;
-            i += 1;
         }
     }
     unloaded

@@ -10,8 +10,8 @@ use lib.ListN.{length, take, drop, get_or}
 use borrow.Author.Tests.{eq-eqb, ne_eqb}
 use Rattle.laws.specs.Pick.{pick}
 use Rattle.laws.proofs.Tests.{leb_cases, eqb_cases}
-use Rattle.rows.specs.declared.Order.TheVariants.{Below, Above}
-use Rattle.rows.specs.declared.Place.TheVariants.{At, Gap}
+use Rattle.std.specs.declared.cmp.Ordering.TheVariants.{Less, Greater}
+use Rattle.std.specs.Prelude.{Ok, Err}
 use Rattle.rows.specs.Rows.{rows_of, key, choose, compared, Ascending, below, has_key, place_of}
 use Rattle.tables.specs.Tables.{EightWords}
 use Rattle.rows.proofs.Lexicographic.{order_cases, not_above, first_below, first_above, first_same, below_of}
@@ -40,7 +40,7 @@ module _ (round : ℕ) where
   past_none (r ∷ rows) p = rw (ne_eqb (get_or r 0 0) round (λ e. omega (arith, p.0))) (past_none rows p.1)
 
   -- A key of the round is not below the lowest: where its authority is 0, the row alone would not be found at its place.
-  not_below : (r : List ℕ) → length r ≡ 8 → get_or r 0 0 ≡ round → compared (key r) first ≡ Below → ⊥
+  not_below : (r : List ℕ) → length r ≡ 8 → get_or r 0 0 ≡ round → compared (key r) first ≡ Less → ⊥
   unfolding key exists_at pick below has_key choose
   not_below [] h e l = absurd (omega arith)
   not_below (x ∷ []) h e l = absurd (omega arith)
@@ -58,18 +58,18 @@ module _ (round : ℕ) where
       ))
       (eqb_cases y 0)
 
-  key_below : (r : List ℕ) → length r ≡ 8 → get_or r 0 0 < round → compared (key r) first ≡ Below
+  key_below : (r : List ℕ) → length r ≡ 8 → get_or r 0 0 < round → compared (key r) first ≡ Less
   unfolding key
   key_below [] h l = absurd (omega arith)
   key_below (x ∷ r) h l = first_below x round (take 5 r) (0 ∷ 0 ∷ 0 ∷ 0 ∷ 0 ∷ []) l
 
-  key_above : (r : List ℕ) → length r ≡ 8 → round < get_or r 0 0 → compared (key r) first ≡ Above
+  key_above : (r : List ℕ) → length r ≡ 8 → round < get_or r 0 0 → compared (key r) first ≡ Greater
   unfolding key
   key_above [] h l = absurd (omega arith)
   key_above (x ∷ r) h l = first_above x round (take 5 r) (0 ∷ 0 ∷ 0 ∷ 0 ∷ 0 ∷ []) l
 
   -- where the first row is above the lowest key, it decides
-  at_front : (r : List ℕ) (rows : List (List ℕ)) → Ascending (r ∷ rows) → compared (key r) first ≡ Above
+  at_front : (r : List ℕ) (rows : List (List ℕ)) → Ascending (r ∷ rows) → compared (key r) first ≡ Greater
       → pick (has_key first (r ∷ rows)) true (first_is (drop (below first (r ∷ rows)) (r ∷ rows))) ≡ eqb (get_or r 0 0) round
   unfolding below has_key choose pick
   at_front r rows a g =
@@ -105,11 +105,11 @@ module _ (round : ℕ) where
 
   -- The rows of a table, and where the lowest key is among them or is to be put.
   module _ (t : List ℕ) (count : ℕ) (fits : 8 * count ≤ length t) (a : Ascending (rows_of count t)) {i : ℕ} where
-    pub there_found : At i ≡ place_of first (rows_of count t) → true ≡ round_there round (rows_of count t)
+    pub there_found : Ok i ≡ place_of first (rows_of count t) → true ≡ round_there round (rows_of count t)
     unfolding pick
     there_found is = sym (there_place (rows_of count t) (eights_rows_of count t fits) a ∙ rw (at_place first (rows_of count t) is).0)
 
-    module _ (is : Gap i ≡ place_of first (rows_of count t)) where
+    module _ (is : Err i ≡ place_of first (rows_of count t)) where
       behind_gap : round_there round (rows_of count t) ≡ first_is (rows_from t i count)
       unfolding pick
       behind_gap =

@@ -8,7 +8,6 @@ ghost use Rattle.std.specs.Prelude.{◌≡◌, ◌*◌, ◌≤◌, length};
 ghost use Rattle.rows.specs.Rows.{rows_of, Ascending};
 ghost use Rattle.exists.specs.Exists.{block_exists, block_exists_at, all_blocks_exist_at, round_there, all_exist};
 
-use rows::Place;
 use store::BlockStore;
 use types::{AuthorityIndex, BlockReference, RoundNumber};
 
@@ -36,8 +35,8 @@ pub fn block_exists(
         return Answer::Refused(number);
     }
     match rows::find(index, store.rows, index::key_of(reference)) {
-        Place::At(_) => Answer::Yes,
-        Place::Gap(_) => Answer::No,
+        Ok(_) => Answer::Yes,
+        Err(_) => Answer::No,
     }
 }
 
@@ -70,13 +69,8 @@ fn round_exists(index: &[u64], count: usize, round: RoundNumber) -> bool
     ensures { result ≡ round_there round (rows_of count index.now) }
 {
     match rows::find(index, count, [round, 0, 0, 0, 0, 0]) {
-        Place::At(_) => true,
-        Place::Gap(i) => {
-            if count <= i {
-                return false;
-            }
-            index[8 * i] == round
-        }
+        Ok(_) => true,
+        Err(i) => i < count && index[8 * i] == round,
     }
 }
 
@@ -85,14 +79,7 @@ fn all_exist(index: &[u64], count: usize, authorities: &[u64], round: RoundNumbe
     requires { (8 * count ≤ length index.now) × Ascending (rows_of count index.now) }
     ensures { result ≡ all_exist authorities.now round (rows_of count index.now) }
 {
-    let mut i = 0;
-    while i < authorities.len() {
-        if !index::exists_at(index, count, authorities[i], round) {
-            return false;
-        }
-        i += 1;
-    }
-    true
+    authorities.iter().all(|authority| index::exists_at(index, count, *authority, round))
 }
 
 // Whether each of the authorities has a block in a round; no in a round without blocks.

@@ -16,8 +16,9 @@ use Rattle.wal_position.specs.Checks.{log_check}
 use Rattle.wal_writer.specs.Append.{Placed, accepted, refused, place, image_after}
 use Rattle.wal_position.proofs.Checks.{sound_passes}
 use Rattle.wal_writer.proofs.Places.{Accepted, accepted_says}
-use Rattle.tables.specs.declared.Upserted.{Upserted}
-use Rattle.tables.specs.declared.Upserted.TheVariants.{Count, Full}
+use mathlib.Core.Logic.{inl, inr}
+use Rattle.std.specs.Prelude.{Option, Some, None}
+use Rattle.refusal.proofs.Numbers.{passes, checked_cases}
 use Rattle.rows.specs.Rows.{rows_of}
 use Rattle.tables.specs.Tables.{upserted, upsert_count}
 use Rattle.tables.proofs.Tables.{fits_lent}
@@ -44,7 +45,7 @@ pub record Passed (w : WalWriter) (size : ℕ) (s : BlockStore) (index : List �
   pub placed : place w.exponent w.used size (length payload) ≡ accepted start
   pub holds : decoded_reference tag payload ≡ good r
   pub block : block_number s.committee_size s.authority (rows_of s.rows index) r ≡ 0
-  pub counted : upsert_count index s.rows (loaded_row r start) ≡ Count n
+  pub counted : upsert_count index s.rows (loaded_row r start) ≡ Some n
 
 -- an insertion is not both refused and accepted
 not_both : {x : Insertion} {m start n : ℕ} {r : BlockReference} → x ≡ refuse m → x ≡ insert start r n → ⊥
@@ -61,10 +62,10 @@ accepted_passed w size s index tag payload {start} {r} {n} e =
     counting : call_check w.exponent w.used size s index ≡ 0 → (at : ℕ) → place w.exponent w.used size (length payload) ≡ accepted at
         → (b : BlockReference) → decoded_reference tag payload ≡ good b
         → block_number s.committee_size s.authority (rows_of s.rows index) b ≡ 0
-        → (u : Upserted) → u ≡ upsert_count index s.rows (loaded_row b at) → Passed w size s index tag payload start r n
-    counting passed at placed b holds block (Count m) counted =
+        → (u : Option ℕ) → u ≡ upsert_count index s.rows (loaded_row b at) → Passed w size s index tag payload start r n
+    counting passed at placed b holds block (Some m) counted =
         let same : insert at b m ≡ insert start r n =
-        sym (decoded w size s index tag payload passed placed holds ∙ index_counted s index at b refl block refl counted) ∙ e in
+        sym (decoded w size s index tag payload passed placed holds ∙ index_counted s index at b (passes block) refl counted) ∙ e in
         let at_is : at ≡ start = cc in
         let b_is : b ≡ r = cc in
         let m_is : m ≡ n = cc in
@@ -72,17 +73,17 @@ accepted_passed w size s index tag payload {start} {r} {n} e =
         (subst (λ (b : BlockReference). Passed w size s index tag payload start b m) b_is
         (subst (λ (at : ℕ). Passed w size s index tag payload at b m) at_is
         (record { call = passed; placed = placed; holds = holds; block = block; counted = sym counted })))
-    counting passed at placed b holds block Full full =
-        absurd (not_both (decoded w size s index tag payload passed placed holds ∙ index_full s index at b refl block refl full) e)
+    counting passed at placed b holds block None full =
+        absurd (not_both (decoded w size s index tag payload passed placed holds ∙ index_full s index at b (passes block) refl full) e)
 
     holding : call_check w.exponent w.used size s index ≡ 0 → (at : ℕ) → place w.exponent w.used size (length payload) ≡ accepted at
         → (d : Decoded) → decoded_reference tag payload ≡ d → Passed w size s index tag payload start r n
     holding passed at placed (bad m) holds = absurd (not_both (undecoded w size s index tag payload passed placed holds) e)
     holding passed at placed (good b) holds =
-        ⊎_elim
-        (λ z. counting passed at placed b holds z.1 (upsert_count index s.rows (loaded_row b at)) refl)
-        (λ m. absurd (not_both (decoded w size s index tag payload passed placed holds ∙ block_refused s index at b refl m.1) e))
-        (eqb_cases (block_number s.committee_size s.authority (rows_of s.rows index) b) 0)
+        elim (checked_cases (block_number s.committee_size s.authority (rows_of s.rows index) b)) [
+          | inl z ↦ counting passed at placed b holds z (upsert_count index s.rows (loaded_row b at)) refl
+          | inr m ↦ absurd (not_both (decoded w size s index tag payload passed placed holds ∙ block_refused s index at b m.1) e)
+        ]
 
     placing : call_check w.exponent w.used size s index ≡ 0 → (p : Placed) → place w.exponent w.used size (length payload) ≡ p
         → Passed w size s index tag payload start r n

@@ -1,5 +1,6 @@
 -- A refusal is not numbered 0, so that the number 0 tells an accepted insert. Assumes nothing.
 use mathlib.Core.Path.{◌≡◌, refl, sym, ap, ◌∙◌, subst}
+use mathlib.Core.Logic.{inl, inr}
 use mathlib.Core.List.{List}
 use Prim.Native.Nat.{ℕ, zero, suc, ◌+◌, ◌^◌, ◌<◌, min}
 use native.Mathlib.Omega.{arith}
@@ -11,8 +12,8 @@ use Rattle.types.specs.declared.BlockReference.{BlockReference}
 use Rattle.wal_writer.specs.declared.WalWriter.{WalWriter}
 use Rattle.wal_position.specs.Checks.{log_check, unless}
 use Rattle.wal_writer.specs.Append.{Placed, accepted, refused, start_for, within, place}
-use Rattle.tables.specs.declared.Upserted.{Upserted}
-use Rattle.tables.specs.declared.Upserted.TheVariants.{Count, Full}
+use Rattle.std.specs.Prelude.{Option, Some, None}
+use Rattle.refusal.proofs.Numbers.{positive, positive_number, passes, checked_cases}
 use Rattle.tables.specs.Tables.{upsert_count}
 use Rattle.state.specs.Checks.{block_number}
 use Rattle.store.specs.declared.BlockStore.{BlockStore}
@@ -22,7 +23,7 @@ use Rattle.indexing.specs.Indexing.{Insertion, refuse, insert, loaded_row, index
 use Rattle.insert.specs.Insert.{Decoded, good, decoded_reference, insertion}
 use Rattle.insert.specs.Insert as definitions
 use Rattle.indexing.proofs.Indexing.{block_refused, index_full, index_counted}
-use Rattle.insert.proofs.Decoding.{either, DecodedNumbered, block_numbered}
+use Rattle.insert.proofs.Decoding.{either, DecodedTabled, block_tabled}
 use Rattle.insert.proofs.Inserting.{call_refused, place_refused, undecoded, decoded}
 
 unless_numbered : {A : Type 0} (P : A → Type 0) (f : ℕ → A) (n : ℕ) (x : A) → ((m : ℕ) → 0 < m → P (f m)) → P x → P (unless n f x)
@@ -48,15 +49,15 @@ Numbered (insert start r n) = Unit {0}
 
 index_numbered : (s : BlockStore) (index : List ℕ) (start : ℕ) (r : BlockReference) → Numbered (indexing s index start r)
 index_numbered s index start r =
-    ⊎_elim
-    (λ z. stored z.1 (upsert_count index s.rows (loaded_row r start)) refl)
-    (λ m. subst Numbered (sym (block_refused s index start r refl m.1)) (omega (arith, m.1)))
-    (eqb_cases (block_number s.committee_size s.authority (rows_of s.rows index) r) 0)
+    elim (checked_cases (block_number s.committee_size s.authority (rows_of s.rows index) r)) [
+      | inl z ↦ stored z (upsert_count index s.rows (loaded_row r start)) refl
+      | inr m ↦ subst Numbered (sym (block_refused s index start r m.1)) (positive_number m.0)
+    ]
   where
-    stored : block_number s.committee_size s.authority (rows_of s.rows index) r ≡ 0 → (u : Upserted)
+    stored : block_number s.committee_size s.authority (rows_of s.rows index) r ≡ 0 → (u : Option ℕ)
         → u ≡ upsert_count index s.rows (loaded_row r start) → Numbered (indexing s index start r)
-    stored z (Count n) is = subst Numbered (sym (index_counted s index start r refl z refl is)) tt
-    stored z Full is = subst Numbered (sym (index_full s index start r refl z refl is)) (omega arith)
+    stored z (Some n) is = subst Numbered (sym (index_counted s index start r (passes z) refl is)) tt
+    stored z None is = subst Numbered (sym (index_full s index start r (passes z) refl is)) (omega arith)
 
 insertion_numbered : (w : WalWriter) (size : ℕ) (s : BlockStore) (index : List ℕ) (tag : ℕ) (payload : List ℕ)
     → Numbered (insertion w size s index tag payload)
@@ -70,7 +71,7 @@ insertion_numbered w size s index tag payload =
         → place w.exponent w.used size (length payload) ≡ accepted start
         → (d : Decoded) → decoded_reference tag payload ≡ d → Numbered (insertion w size s index tag payload)
     holding z start at (definitions.Decoded.bad n) is =
-        subst Numbered (sym (undecoded w size s index tag payload z at is)) (subst DecodedNumbered is (block_numbered tag payload))
+        subst Numbered (sym (undecoded w size s index tag payload z at is)) (positive (subst DecodedTabled is (block_tabled tag payload)))
     holding z start at (good r) is =
         subst Numbered (sym (decoded w size s index tag payload z at is)) (index_numbered s index start r)
 

@@ -1,20 +1,22 @@
 -- The answer of the call, by its checks and by what the search found. Assumes nothing.
 use mathlib.Core.Path.{◌≡◌, sym, ap, ap₂, ◌∙◌}
-use mathlib.Core.Bool.{Bool, true, false}
+use mathlib.Core.Bool.{Bool, true}
 use mathlib.Core.List.{List, []}
 use Prim.Native.Nat.{ℕ, ◌≤◌, ◌<◌}
 use lib.Dec.{leb}
 use lib.ListN.{length}
 use borrow.Author.Tests.{le-leb, lt-leb}
+use Rattle.std.proofs.Common.{Some, None}
 use Rattle.laws.specs.Pick.{pick}
 use Rattle.laws.specs.Parse.{Res, got, answer}
 use Rattle.wal_position.proofs.Checks.{unless_passed, unless_refused}
 use Rattle.rows.specs.Rows.{rows_of}
 use Rattle.types.specs.declared.BlockReference.{BlockReference}
 use Rattle.types.specs.Records.{BlockValue, block}
-use Rattle.blocks.specs.declared.DecodedBlock.{DecodedBlock}
-use Rattle.blocks.specs.Answers.{block_answer}
-use Rattle.blocks.proofs.Found.{block_bad, block_some}
+use Rattle.bincode.specs.Answers.{decoded_as}
+use Rattle.bincode.proofs.Found.{told_as, told_none}
+use Rattle.blocks.specs.declared.StatementBlock.{StatementBlock}
+use Rattle.blocks.specs.Answers.{statement_block}
 use Rattle.store.specs.declared.BlockStore.{BlockStore}
 use Rattle.store.specs.Store.{indexed, call_check}
 use Rattle.query.specs.Query.{counted}
@@ -44,32 +46,36 @@ module _ (k : ℕ) (s : List ℕ) (used : ℕ) (store : BlockStore) (index bytes
       ∙ ap (refused_of store) check
       ∙ sym (unless_refused (refused_of store) _ (call_check k used (length s) store index) (λ e. fails (check ∙ e)))
 
-  module _ (passes : n ≡ 0) {d : DecodedBlock} (decoded : d ≡ block_answer 0 (block bytes 0)) where
+  module _ (passes : n ≡ 0) where
     passed : linked_answer k s used store index bytes earlier lent
         ≡ answer (refused_of store 9) (λ (later : BlockValue) e. of_later later) (block bytes 0)
     unfolding linked_answer of_later
     passed = unless_passed (refused_of store) _ (call_check k used (length s) store index) (sym check ∙ passes)
 
-    pub refused_later : d.ok ≡ false → {r : LinkedAnswer} → r ≡ refused_of store 9 → r ≡ linked_answer k s used store index bytes earlier lent
+    pub refused_later : None ≡ decoded_as (λ b e. statement_block 0 b) (block bytes 0) → {r : LinkedAnswer} → r ≡ refused_of store 9
+        → r ≡ linked_answer k s used store index bytes earlier lent
     unfolding answer
     refused_later none is =
-        is ∙ sym (passed ∙ ap (answer (refused_of store 9) (λ (later : BlockValue) e. of_later later)) (block_bad 0 (block bytes 0) decoded none))
+        is
+        ∙ sym (
+        passed ∙ ap (answer (refused_of store 9) (λ (later : BlockValue) e. of_later later)) (told_none (λ b e. statement_block 0 b) (block bytes 0) none)
+        )
 
-    module _ (ok : d.ok ≡ true) where
+    module _ {d : StatementBlock} {end : ℕ} (decoded : Some (d, end) ≡ decoded_as (λ b e. statement_block 0 b) (block bytes 0)) where
       -- the later block
       this : BlockValue
-      this = (block_some 0 (block bytes 0) decoded ok).0
+      this = (told_as (λ b e. statement_block 0 b) (block bytes 0) decoded).0
 
-      is_this : block bytes 0 ≡ got this d.end
+      is_this : block bytes 0 ≡ got this end
       unfolding this
-      is_this = (block_some 0 (block bytes 0) decoded ok).1
+      is_this = (told_as (λ b e. statement_block 0 b) (block bytes 0) decoded).1
 
-      refers : d.block.reference ≡ this.reference
+      refers : d.reference ≡ this.reference
       unfolding this
-      refers = ap (λ (d : DecodedBlock). d.block.reference) (block_some 0 (block bytes 0) decoded ok).2
+      refers = ap (λ (d : StatementBlock). d.reference) (told_as (λ b e. statement_block 0 b) (block bytes 0) decoded).2
 
       pub later_parses : Parses bytes
-      later_parses = (this, d.end, is_this)
+      later_parses = (this, end, is_this)
 
       goes_on : linked_answer k s used store index bytes earlier lent ≡ of_later this
       unfolding answer
@@ -80,7 +86,7 @@ module _ (k : ℕ) (s : List ℕ) (used : ℕ) (store : BlockStore) (index bytes
       refused_few few is = is ∙ sym (goes_on ∙ rw (lt-leb store.rows lent few))
 
       module _ (enough : store.rows ≤ lent) {found : Searched}
-          (search : Answered k s used earlier d.block.reference.round (includes_of bytes) (rows_of store.rows index) found) where
+          (search : Answered k s used earlier d.reference.round (includes_of bytes) (rows_of store.rows index) found) where
         -- the rows that are looked up
         rows : List (List ℕ)
         rows = looked_up this earlier (indexed store index)
@@ -104,7 +110,7 @@ module _ (k : ℕ) (s : List ℕ) (used : ℕ) (store : BlockStore) (index bytes
         refused_search fails is =
             is ∙ sym (looks ∙ ap (linked_of store rows this earlier) (told_failed _ rows _ (reads_numbered k s used rows) searched fails).0)
 
-        pub linked_answer_lem : found.number ≡ 0 → {l : Bool} → l ≡ pick (same d.block.reference earlier) true found.found
+        pub linked_answer_lem : found.number ≡ 0 → {l : Bool} → l ≡ pick (same d.reference earlier) true found.found
             → {t : BlockStore} → t ≡ counted store found.unloaded
             → record { number = 0; linked = l; store = t } ≡ linked_answer k s used store index bytes earlier lent
         unfolding linked_of is_ancestor

@@ -5,7 +5,7 @@
 // block's down.
 #![tactic(auto)]
 
-ghost use Rattle.std.specs.Prelude.{◌≡◌, true, false, suc, ◌+◌, ◌*◌, ◌/◌, ◌≤◌, ◌<◌, eqb, length};
+ghost use Rattle.std.specs.Prelude.{◌≡◌, Some, true, false, suc, ◌+◌, ◌*◌, ◌/◌, ◌≤◌, ◌<◌, eqb, length};
 ghost use Rattle.laws.specs.Pick.{pick};
 ghost use Rattle.laws.specs.Bytes.{zeros};
 ghost use Rattle.rows.specs.Rows.{rows_of, Ascending};
@@ -16,8 +16,9 @@ ghost use Rattle.includes.specs.Includes.{includes_of, Parses};
 ghost use Rattle.reach.specs.Blocks.{read_blocks};
 ghost use Rattle.reach.specs.Reaching.{searched_of};
 
-use includes::same_reference;
-use reach::{Parents, Searched};
+use bincode::Decode;
+use blocks::StatementBlock;
+use reach::Searched;
 use store::BlockStore;
 use types::{BlockReference, RoundNumber};
 
@@ -29,29 +30,21 @@ pub struct LinkedAnswer {
     pub store: BlockStore,
 }
 
-// The parents of a round under `above`: the later block, or the working rows up to `end`, and none
-// where no row has the round just under `above`.
+// The parents of a round under `above`, by where their rows end: they begin at `to`, so that there are none
+// where the round is not just under `above`.
 fn parents_of(
-    high: RoundNumber,
+    parents: Option<usize>,
     above: RoundNumber,
     round: RoundNumber,
     to: usize,
-    end: usize,
-) -> Parents
+) -> Option<usize>
     requires { round < above }
-    ensures { result ≡ pick (eqb above (suc round)) (record { later = eqb above high; end = end })
-        (record { later = false; end = to }) }
+    ensures { result ≡ pick (eqb above (suc round)) parents (Some to) }
 {
     if above - round != 1 {
-        return Parents {
-            later: false,
-            end: to,
-        };
+        return Some(to);
     }
-    Parents {
-        later: above == high,
-        end,
-    }
+    parents
 }
 
 // Goes down the indexed rounds under the later block's. Every row is read, also where no parent is left.
@@ -76,24 +69,23 @@ fn search(
 {
     let low = filters::lower_bound(index, count, [earlier.round, 0, 0, 0, 0, 0]);
     let mut to = filters::lower_bound(index, count, [high, 0, 0, 0, 0, 0]);
-    let mut end = to;
+    let mut parents = None;
     let mut above = high;
     let mut unloaded = 0;
     let mut found = false;
+    // Kept: no `for`, since a search of the table says where each round's rows begin.
     while low < to {
         let round = index[8 * (to - 1)];
         let from = filters::lower_bound(index, count, [round, 0, 0, 0, 0, 0]);
-        let parents = parents_of(high, above, round, to, end);
-        let s = reach::reach_round(
-            k, image, used, index, from, to, parents, later, earlier, work,
-        );
+        let near = parents_of(parents, above, round, to);
+        let s = reach::reach_round(k, image, used, index, from, to, near, later, earlier, work);
         if s.number != 0 {
             return s;
         }
-        unloaded = unloaded + s.unloaded;
+        unloaded += s.unloaded;
         found = s.found;
         above = round;
-        end = to;
+        parents = Some(to);
         to = from;
     }
     Searched {
@@ -107,10 +99,7 @@ fn search(
 fn found_in(found: bool, above: RoundNumber, round: RoundNumber) -> bool
     ensures { result ≡ pick found (eqb above round) false }
 {
-    if !found {
-        return false;
-    }
-    above == round
+    found && above == round
 }
 
 fn refuse(store: BlockStore, number: u8, work: &mut [u64]) -> LinkedAnswer
@@ -143,15 +132,13 @@ pub fn linked(
     if number != 0 {
         return refuse(store, number, work);
     }
-    let d = blocks::decode_block(later, 0);
-    if !d.ok {
+    let Some((block, _)) = StatementBlock::decode(later, 0) else {
         return refuse(store, 9, work);
-    }
+    };
     if work.len() / 8 < store.rows {
         return refuse(store, 15, work);
     }
-    let b = d.block;
-    let reference = b.reference;
+    let reference = block.reference;
     let s = search(
         k,
         image,
@@ -177,8 +164,5 @@ pub fn linked(
 fn is_linked(later: BlockReference, earlier: BlockReference, found: bool) -> bool
     ensures { result ≡ pick (same later earlier) true found }
 {
-    if same_reference(later, earlier) {
-        return true;
-    }
-    found
+    later == earlier || found
 }

@@ -1,7 +1,6 @@
 -- The lookups by reference, by round, and by round and author. Document 01, "Lookups" and the order of checks: "Queries and cleanup check
 -- 1, 2, 18."
-use Rattle.std.specs.Prelude.{Bool, List, ℕ}
-use Rattle.laws.specs.Pick.{pick}
+use Rattle.std.specs.Prelude.{List, ℕ, Option, Some, None}
 use Rattle.types.specs.declared.BlockReference.{BlockReference}
 use Rattle.store.specs.declared.BlockStore.{BlockStore}
 use Rattle.filters.specs.Filters.{by_reference, by_round, by_author_round}
@@ -19,9 +18,13 @@ get_blocks_by_round c round = asking c (call_number c) (by_round round)
 abbrev pub get_blocks_at_authority_round : Call → ℕ → ℕ → Question
 get_blocks_at_authority_round c authority round = asking c (call_number c) (by_author_round authority round)
 
--- the blocks of a round, of every author or of one
-abbrev pub blocks_of_round : Call → Bool → ℕ → ℕ → Question
-blocks_of_round c every authority round = asking c (call_number c) (pick every (by_round round) (by_author_round authority round))
+-- the blocks of a round, of an author or of every one
+abbrev pub in_round : Option ℕ → ℕ → List (List ℕ) → List (List ℕ)
+in_round None round = by_round round
+in_round (Some authority) round = by_author_round authority round
+
+abbrev pub blocks_of_round : Call → Option ℕ → ℕ → Question
+blocks_of_round c author round = asking c (call_number c) (in_round author round)
 
 -- ---- The calls: k, the image and used, the store and its index, the arguments, the answer, and the answer table before and after
 

@@ -10,7 +10,6 @@ ghost use Rattle.query.specs.Query.{call_of, QueryAnswers};
 
 pub use block_reader::{ReadBlock, read_block};
 pub use query::Looked;
-use rows::Place;
 use store::BlockStore;
 use types::{AuthorityIndex, BlockReference, RoundNumber};
 
@@ -31,10 +30,9 @@ pub fn get_block(
     if number != 0 {
         return query::refuse(store, number, out);
     }
-    let found = rows::find(index, store.rows, index::key_of(reference));
-    match found {
-        Place::At(i) => query::answer(k, image, used, store, index, i, i + 1, true, 0, 1, out),
-        Place::Gap(_) => query::answer(k, image, used, store, index, 0, 0, true, 0, 0, out),
+    match rows::find(index, store.rows, index::key_of(reference)) {
+        Ok(i) => query::answer(k, image, used, store, index, i, i + 1, None, 1, out),
+        Err(_) => query::answer(k, image, used, store, index, 0, 0, None, 0, out),
     }
 }
 
@@ -51,7 +49,7 @@ pub fn get_blocks_by_round(
     ensures { GetBlocksByRound k image.now used store index.now round
         result out.old out.new }
 {
-    blocks_of_round(k, image, used, store, index, true, 0, round, out)
+    blocks_of_round(k, image, used, store, index, None, round, out)
 }
 
 // The blocks of an authority in a round.
@@ -68,23 +66,22 @@ pub fn get_blocks_at_authority_round(
     ensures { GetBlocksAtAuthorityRound k image.now used store index.now authority round
         result out.old out.new }
 {
-    blocks_of_round(k, image, used, store, index, false, authority, round, out)
+    blocks_of_round(k, image, used, store, index, Some(authority), round, out)
 }
 
-// The blocks of a round, of every author or of one.
+// The blocks of a round, of an author or of every one.
 fn blocks_of_round(
     k: u64,
     image: &[u8],
     used: u64,
     store: BlockStore,
     index: &[u64],
-    every: bool,
-    authority: AuthorityIndex,
+    author: Option<AuthorityIndex>,
     round: RoundNumber,
     out: &mut [u64],
 ) -> Looked
     ensures { QueryAnswers
-        (blocks_of_round (call_of k image.now used store index.now) every authority round)
+        (blocks_of_round (call_of k image.now used store index.now) author round)
         result out.old out.new }
 {
     let number = store::check_call(k, image, used, store, index);
@@ -101,8 +98,7 @@ fn blocks_of_round(
         index,
         from,
         to,
-        every,
-        authority,
+        author,
         index.len(),
         out,
     )

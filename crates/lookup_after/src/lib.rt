@@ -61,8 +61,7 @@ pub fn get_own_blocks(
         index,
         from,
         store.rows,
-        false,
-        store.authority,
+        Some(store.authority),
         limit,
         out,
     )
@@ -98,8 +97,7 @@ pub fn get_others_blocks(
         index,
         from,
         to,
-        false,
-        authority,
+        Some(authority),
         index.len(),
         out,
     )

@@ -1,10 +1,12 @@
 -- The answer of a query: refused by a check, or made of the blocks that were collected. Assumes nothing.
 use mathlib.Core.Path.{◌≡◌, refl, sym, ap, ap₂, ◌∙◌, subst}
-use mathlib.Core.List.{List, [], ◌∷◌}
+use mathlib.Core.List.{List, []}
 use Prim.Native.Nat.{ℕ, ◌/◌, ◌≤◌, ◌<◌}
 use native.Mathlib.Omega.{arith}
-use lib.ListN.{length, get_or}
+use lib.ListN.{length}
 use borrow.Author.Tests.{le-leb, lt-leb}
+use Rattle.std.specs.Prelude.{Result}
+use Rattle.std.proofs.Common.{Ok, Err}
 use Rattle.laws.specs.Pick.{pick}
 use Rattle.laws.specs.Bytes.{zeros}
 use Rattle.wal_position.specs.Checks.{unless}
@@ -15,11 +17,9 @@ use Rattle.store.specs.Store.{call_check}
 use Rattle.store.proofs.Checked.{Checked, call_checked}
 use Rattle.query.specs.declared.Looked.{Looked}
 use Rattle.query.specs.declared.Collected.{Collected}
-use Rattle.block_reader.specs.Reading.{BlockRead}
 use Rattle.query.specs.Query.{Blocks, failed, all, also, followed_by, read_rows, unloaded, counted, Query, answers, fitting, looked_up, answer_words, Call, call_number, Question, query, looked, looked_table, QueryAnswers}
 use Rattle.query.specs.Query as queries
-use Rattle.query.specs.Collecting.{collected_of, NoZero, HoldsRows, GivesQuery, FinishesQuery}
-use Rattle.block_reader.proofs.Reading.{NumberedBlock, is_refused, is_got, block_at_numbered}
+use Rattle.query.specs.Collecting.{collected_of, HoldsRows, GivesQuery, FinishesQuery}
 
 -- ---- The checks of a call
 
@@ -32,24 +32,6 @@ module _ (k used size : ℕ) (store : BlockStore) (index : List ℕ) {n : ℕ} (
 
 pub query_checked : (c : Call) {n : ℕ} → n ≡ call_number c → n ≡ 0 → Checked c.store c.index
 query_checked c = checked_call c.exponent c.used (length c.image) c.store c.index
-
--- ---- A read that fails has a number
-
-also_numbered : (row : List ℕ) (b : Blocks) → NoZero b → NoZero (also row b)
-unfolding also
-also_numbered row (failed n) h = h
-also_numbered row (all rows) h = tt
-
-next_numbered : {x : BlockRead} → NumberedBlock x → (b : Blocks) → NoZero b → NoZero (followed_by x b)
-unfolding followed_by
-next_numbered (is_refused h) b g = h
-next_numbered is_got b g = also_numbered _ b g
-
-pub reads_numbered : (k : ℕ) (s : List ℕ) (used : ℕ) (rows : List (List ℕ)) → NoZero (read_rows k s used rows)
-unfolding read_rows
-reads_numbered k s used [] = tt
-reads_numbered k s used (r ∷ rows) =
-    next_numbered (block_at_numbered k s used (get_or r 6 0)) (read_rows k s used rows) (reads_numbered k s used rows)
 
 -- ---- What was collected, as an answer
 
@@ -71,46 +53,37 @@ refusal : (store : BlockStore) (chosen : List (List ℕ)) (n : ℕ) {r : Looked}
 unfolding looked_up answer_words
 refusal store chosen n is clear = record { answer = is; words = clear }
 
-collected_number : (chosen : List (List ℕ)) (n : ℕ) {c : Collected} → c ≡ collected_of chosen (failed n) → c.number ≡ n
-unfolding collected_of
-collected_number chosen n made = ap (λ (c : Collected). c.number) made
+module _ (store : BlockStore) {r : Looked} {out out' : List ℕ} where
+  pub finishes_refused : (n : ℕ) → r ≡ looked_up store [] (queries.Query.refused n) → out' ≡ zeros (length out)
+      → FinishesQuery store (Err n) r out out'
+  unfolding collected_of
+  finishes_refused n is clear chosen (failed m) made holds =
+      let same : queries.Query.refused n ≡ fitting (length out / 8) (failed m) =
+      ap queries.Query.refused (cc) ∙ sym (fails (length out / 8) m) in
+      subst (λ (q : Query). GivesQuery store chosen q r out out') same (refusal store chosen n is clear)
+  finishes_refused n is clear chosen (all rows) made holds = absurd (cc)
 
-collected_all : (chosen rows : List (List ℕ)) {c : Collected} → c ≡ collected_of chosen (all rows)
-    → (c.number ≡ 0) × (c.rows ≡ length rows) × (c.unloaded ≡ unloaded chosen)
-unfolding collected_of
-collected_all chosen rows made =
-    (ap (λ (c : Collected). c.number) made, ap (λ (c : Collected). c.rows) made, ap (λ (c : Collected). c.unloaded) made)
-
-module _ (store : BlockStore) (c : Collected) {r : Looked} {out out' : List ℕ} where
-  pub finishes_refused : (c.number ≡ 0 → ⊥) → r ≡ looked_up store [] (queries.Query.refused c.number) → out' ≡ zeros (length out)
-      → FinishesQuery store c r out out'
-  finishes_refused found is clear chosen (failed n) made numbered holds =
-      let same : queries.Query.refused c.number ≡ fitting (length out / 8) (failed n) =
-      ap queries.Query.refused (collected_number chosen n made) ∙ sym (fails (length out / 8) n) in
-      subst (λ (q : Query). GivesQuery store chosen q r out out') same (refusal store chosen c.number is clear)
-  finishes_refused found is clear chosen (all rows) made numbered holds = absurd (found (collected_all chosen rows made).0)
-
-  module _ (passed : c.number ≡ 0) where
+  module _ (c : Collected) where
     pub finishes_full : length out / 8 < c.rows → r ≡ looked_up store [] (queries.Query.refused 15) → out' ≡ zeros (length out)
-        → FinishesQuery store c r out out'
-    finishes_full more is clear chosen (failed n) made numbered holds =
-        absurd (omega (arith, collected_number chosen n made, numbered))
-    finishes_full more is clear chosen (all rows) made numbered holds =
+        → FinishesQuery store (Ok c) r out out'
+    unfolding collected_of
+    finishes_full more is clear chosen (failed n) made holds = absurd (cc)
+    finishes_full more is clear chosen (all rows) made holds =
+        let these : c ≡ record { rows = length rows; unloaded = unloaded chosen } = cc in
         subst (λ (q : Query). GivesQuery store chosen q r out out')
-        (sym (too_many (length out / 8) rows (omega (arith, (collected_all chosen rows made).1))))
+        (sym (too_many (length out / 8) rows (omega (arith, ap (λ (c : Collected). c.rows) these))))
         (refusal store chosen 15 is clear)
 
     pub finishes_answers : c.rows ≤ length out / 8 → r ≡ record { number = 0; rows = c.rows; store = counted store c.unloaded } → out' ≡ out
-        → FinishesQuery store c r out out'
-    unfolding looked_up answer_words
-    finishes_answers room is same chosen (failed n) made numbered holds =
-        absurd (omega (arith, collected_number chosen n made, numbered))
-    finishes_answers room is same chosen (all rows) made numbered holds =
-        let all_of = collected_all chosen rows made in
-        let fit : length rows ≤ length out / 8 = omega (arith, all_of.1) in
+        → FinishesQuery store (Ok c) r out out'
+    unfolding looked_up answer_words collected_of
+    finishes_answers room is same chosen (failed n) made holds = absurd (cc)
+    finishes_answers room is same chosen (all rows) made holds =
+        let these : c ≡ record { rows = length rows; unloaded = unloaded chosen } = cc in
+        let fit : length rows ≤ length out / 8 = omega (arith, ap (λ (c : Collected). c.rows) these) in
         subst (λ (q : Query). GivesQuery store chosen q r out out') (sym (fits_all (length out / 8) rows fit))
         (record {
-          answer = is ∙ ap₂ (λ (n u : ℕ). record { number = 0; rows = n; store = counted store u }) all_of.1 all_of.2;
+          answer = is ∙ ap (λ (c : Collected). record { number = 0; rows = c.rows; store = counted store c.unloaded }) these;
           words = same ∙ holds fit;
         })
 
@@ -140,7 +113,7 @@ module _ (q : Question) {r : Looked} {out out' : List ℕ} where
 
 module _ (call : Call) (chosen : List (List ℕ)) {r : Looked} {out out' : List ℕ} where
   -- by what was collected for it, in a table that was cleared first
-  pub query_collected : {c : Collected} {mid : List ℕ} → length mid ≡ length out
+  pub query_collected : {c : Result Collected ℕ} {mid : List ℕ} → length mid ≡ length out
       → c ≡ collected_of chosen (read_rows call.exponent call.image call.used chosen)
       → HoldsRows (read_rows call.exponent call.image call.used chosen) mid → FinishesQuery call.store c r mid out'
       → QueryAnswers (record { call = call; number = 0; chosen = chosen }) r out out'
@@ -148,7 +121,7 @@ module _ (call : Call) (chosen : List (List ℕ)) {r : Looked} {out out' : List 
   query_collected {c} {mid} long made holds finishes =
       let blocks : Blocks = read_rows call.exponent call.image call.used chosen in
       let done : GivesQuery call.store chosen (fitting (length mid / 8) blocks) r mid out' =
-      finishes chosen blocks made (reads_numbered call.exponent call.image call.used chosen) holds in
+      finishes chosen blocks made holds in
       gives_answers (record { call = call; number = 0; chosen = chosen }) (ap (λ (m : ℕ). fitting (m / 8) blocks) long)
       (record { answer = done.answer; words = done.words ∙ ap (λ (m : ℕ). answer_words m (fitting (length mid / 8) blocks)) long })
 

@@ -1,6 +1,6 @@
 -- For the proofs alone; no promise is stated with it. What the loop over index rows comes to: it reads the blocks of the rows that it
 -- chooses, and counts them.
-use Rattle.std.specs.Prelude.{◌≡◌, List, ℕ, ◌*◌, ◌/◌, ◌≤◌, ◌<◌, ltb, length}
+use Rattle.std.specs.Prelude.{◌≡◌, List, ℕ, ◌*◌, ◌/◌, ◌≤◌, ltb, length, Result, Ok, Err}
 use Rattle.laws.specs.Pick.{pick}
 use Rattle.laws.specs.Bytes.{written}
 use Rattle.tables.specs.Tables.{table_of}
@@ -9,14 +9,9 @@ use Rattle.query.specs.declared.Looked.{Looked}
 use Rattle.query.specs.declared.Collected.{Collected}
 use Rattle.query.specs.Query.{Blocks, failed, all, unloaded, Query, fitting, looked_up, answer_words}
 
-unfoldable pub collected_of : List (List ℕ) → Blocks → Collected
-collected_of rows (failed n) = record { number = n; rows = 0; unloaded = 0 }
-collected_of rows (all found) = record { number = 0; rows = length found; unloaded = unloaded rows }
-
--- a refusal is not numbered 0
-abbrev pub NoZero : Blocks → Type 0
-NoZero (failed n) = 0 < n
-NoZero (all found) = Unit {0}
+unfoldable pub collected_of : List (List ℕ) → Blocks → Result Collected ℕ
+collected_of rows (failed n) = Err n
+collected_of rows (all found) = Ok (record { rows = length found; unloaded = unloaded rows })
 
 -- the words of the answer table, where the rows fit
 abbrev pub HoldsRows : Blocks → List ℕ → Type 0
@@ -33,7 +28,7 @@ pub record GivesQuery (store : BlockStore) (chosen : List (List ℕ)) (x : Query
   pub words : out' ≡ answer_words (length out) x
 
 -- the same where its rows were collected
-abbrev pub FinishesQuery : BlockStore → Collected → Looked → List ℕ → List ℕ → Type 0
+abbrev pub FinishesQuery : BlockStore → Result Collected ℕ → Looked → List ℕ → List ℕ → Type 0
 FinishesQuery store c r out out' =
-    (chosen : List (List ℕ)) (b : Blocks) → c ≡ collected_of chosen b → NoZero b → HoldsRows b out
+    (chosen : List (List ℕ)) (b : Blocks) → c ≡ collected_of chosen b → HoldsRows b out
     → GivesQuery store chosen (fitting (length out / 8) b) r out out'

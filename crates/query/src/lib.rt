@@ -18,9 +18,6 @@ use store::BlockStore;
 use types::AuthorityIndex;
 use wal_position::WalPosition;
 
-// The highest count of loads.
-const MOST: u64 = 0xffff_ffff_ffff_ffff;
-
 // The number of a refusal, or 0, the rows found, and the store with the loads counted.
 #[derive(Clone, Copy)]
 pub struct Looked {
@@ -29,40 +26,30 @@ pub struct Looked {
     pub store: BlockStore,
 }
 
-// The number of a refusal, or 0, how many rows were chosen, and how many of their blocks were not
-// loaded.
+// How many rows were chosen, and how many of their blocks were not loaded.
 #[derive(Clone, Copy)]
 struct Collected {
-    number: u8,
     rows: usize,
     unloaded: u64,
 }
 
 // Stores a row in the answer table where there is room for it.
-fn put_answer(out: &mut [u64], i: usize, b: ReadBlock)
-    ensures { out.new ≡ answer_put out.old i (answer_row b.reference b.at b.len) }
+fn put_answer(out: &mut [u64], i: usize, block: ReadBlock)
+    ensures { out.new ≡ answer_put out.old i (answer_row block.reference block.at block.len) }
 {
     if i < out.len() / 8 {
-        let k = index::key_of(b.reference);
+        let [a, b, c, d, e, f] = index::key_of(block.reference);
         tables::put_row(
             out,
             i,
-            [
-                k[0],
-                k[1],
-                k[2],
-                k[3],
-                k[4],
-                k[5],
-                b.at as u64,
-                b.len as u64,
-            ],
+            [a, b, c, d, e, f, block.at as u64, block.len as u64],
         );
     }
 }
 
-// Reads the blocks of the rows from `from` up to `to`, of every author or of one, at most `limit` of
-// them, into an answer table of zeros. All are read, also where the table is full: 15 comes last.
+// Reads the blocks of the rows from `from` up to `to`, of an author or of every one, at most `limit` of
+// them, into an answer table of zeros, or answers a refusal's number. All are read, also where the table
+// is full: 15 comes last.
 fn collect(
     k: u64,
     image: &[u8],
@@ -70,70 +57,53 @@ fn collect(
     index: &[u64],
     from: usize,
     to: usize,
-    every: bool,
-    author: AuthorityIndex,
+    author: Option<AuthorityIndex>,
     limit: usize,
     out: &mut [u64],
-) -> Collected
+) -> Result<Collected, u8>
     requires { (8 * to ≤ length index.now) × (out.old ≡ zeros (length out.old)) }
-    ensures value { result ≡ collected_of (chosen every author limit (between from to index.now))
-        (read_rows k image.now used (chosen every author limit (between from to index.now))) }
+    ensures value { result ≡ collected_of (chosen author limit (between from to index.now))
+        (read_rows k image.now used (chosen author limit (between from to index.now))) }
     ensures holds_rows { HoldsRows
-        (read_rows k image.now used (chosen every author limit (between from to index.now)))
+        (read_rows k image.now used (chosen author limit (between from to index.now)))
         out.new }
 {
-    let mut i = from;
     let mut n = 0;
     let mut unloaded = 0;
-    while i < to {
-        if filters::is_chosen(index, i, every, author) {
+    for i in from..to {
+        if filters::is_chosen(index, i, author) {
             if limit <= n {
-                return Collected {
-                    number: 0,
-                    rows: n,
-                    unloaded,
-                };
+                return Ok(Collected { rows: n, unloaded });
             }
             let b = block_reader::read_block(k, image, used, WalPosition(index[8 * i + 6]));
             if b.number != 0 {
-                return Collected {
-                    number: b.number,
-                    rows: 0,
-                    unloaded: 0,
-                };
+                return Err(b.number);
             }
             put_answer(out, n, b);
-            unloaded = unloaded + filters::not_loaded(index, i);
+            unloaded += filters::not_loaded(index, i);
             n += 1;
-            i += 1;
-        } else {
-            i += 1;
         }
     }
-    Collected {
-        number: 0,
-        rows: n,
-        unloaded,
-    }
+    Ok(Collected { rows: n, unloaded })
 }
 
 // The answer of a query whose rows were collected: more rows than lent are refused, and a refusal
 // leaves no word in the table.
-fn finish(store: BlockStore, collected: Collected, out: &mut [u64]) -> Looked
+fn finish(store: BlockStore, collected: Result<Collected, u8>, out: &mut [u64]) -> Looked
     ensures { FinishesQuery store collected result out.old out.new }
 {
-    let number = collected.number;
-    if number != 0 {
-        return refuse(store, number, out);
-    }
-    if out.len() / 8 < collected.rows {
-        return refuse(store, 15, out);
-    }
-    let store = count_loads(store, collected.unloaded);
-    Looked {
-        number: 0,
-        rows: collected.rows,
-        store,
+    match collected {
+        Err(number) => refuse(store, number, out),
+        Ok(found) => {
+            if out.len() / 8 < found.rows {
+                return refuse(store, 15, out);
+            }
+            Looked {
+                number: 0,
+                rows: found.rows,
+                store: count_loads(store, found.unloaded),
+            }
+        }
     }
 }
 
@@ -146,8 +116,7 @@ pub fn answer(
     index: &[u64],
     from: usize,
     to: usize,
-    every: bool,
-    author: AuthorityIndex,
+    author: Option<AuthorityIndex>,
     limit: usize,
     out: &mut [u64],
 ) -> Looked
@@ -156,12 +125,12 @@ pub fn answer(
         (record {
           call = call_of k image.now used store index.now;
           number = 0;
-          chosen = chosen every author limit (between from to index.now);
+          chosen = chosen author limit (between from to index.now);
         })
         result out.old out.new }
 {
     tables::clear(out);
-    let c = collect(k, image, used, index, from, to, every, author, limit, out);
+    let c = collect(k, image, used, index, from, to, author, limit, out);
     finish(store, c, out)
 }
 
@@ -178,14 +147,12 @@ pub fn refuse(store: BlockStore, number: u8, out: &mut [u64]) -> Looked
 }
 
 // The counter stays at its highest number.
+#[tactic(auto, unfolding(crate::specs::Query::counted))]
 pub fn count_loads(store: BlockStore, n: u64) -> BlockStore
     ensures { result ≡ counted store n }
 {
-    let mut s = store;
-    if MOST - store.loads < n {
-        s.loads = MOST;
-        return s;
+    BlockStore {
+        loads: store.loads.saturating_add(n),
+        ..store
     }
-    s.loads = store.loads + n;
-    s
 }

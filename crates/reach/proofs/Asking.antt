@@ -7,6 +7,7 @@ use native.Mathlib.Omega.{arith}
 use lib.Dec.{lit<}
 use lib.ListN.{length, take, drop, get_or}
 use borrow.Author.Tests.{eq-eqb, ne_eqb}
+use Rattle.std.proofs.Common.{Some, None}
 use Rattle.laws.specs.Pick.{pick}
 use Rattle.laws.specs.Bytes.{bytes_at}
 use Rattle.rows.specs.Rows.{row_at}
@@ -16,7 +17,6 @@ use Rattle.laws.proofs.Parts.{part_is}
 use Rattle.store.proofs.Words.{word_row_at}
 use Rattle.filters.specs.Segments.{between}
 use Rattle.filters.proofs.Keeping.{between_rows}
-use Rattle.reach.specs.declared.Parents.{Parents}
 use Rattle.includes.specs.References.{among, any}
 use Rattle.includes.specs.Includes.{includes_of, Parses}
 use Rattle.reach.specs.Reaching.{BlockPlace, AllBlockPlaces, reached_in, parents_of, is_reached}
@@ -111,18 +111,11 @@ module _ {s w : List ℕ} {x : BlockReference} {from to i : ℕ} (h : Asking s w
 
 -- ---- The later block, or the rows
 
-module _ (s bytes : List ℕ) (p : Parents) (rows : List (List ℕ)) where
-  pub parents_later : p.later ≡ true → parents_of s bytes p rows ≡ includes_of bytes ∷ []
-  unfolding parents_of pick
-  parents_later e = rw e
+module _ (s bytes : List ℕ) (from : ℕ) (work : List ℕ) (x : BlockReference) where
+  pub by_later : among x (includes_of bytes) ≡ is_reached (parents_of s bytes None from work) x
+  unfolding parents_of
+  by_later = sym (only_parent (includes_of bytes) x)
 
-  pub parents_rows : p.later ≡ false → parents_of s bytes p rows ≡ reached_in s rows
-  unfolding parents_of pick
-  parents_rows e = rw e
-
-  pub by_later : (x : BlockReference) → p.later ≡ true → among x (includes_of bytes) ≡ is_reached (parents_of s bytes p rows) x
-  by_later x e =
-      sym (ap (λ (l : List (List BlockReference)). is_reached l x) (parents_later e) ∙ only_parent (includes_of bytes) x)
-
-  pub by_rows : (x : BlockReference) → p.later ≡ false → is_reached (reached_in s rows) x ≡ is_reached (parents_of s bytes p rows) x
-  by_rows x e = sym (ap (λ (l : List (List BlockReference)). is_reached l x) (parents_rows e))
+  pub by_rows : (end : ℕ) → is_reached (reached_in s (between from end work)) x ≡ is_reached (parents_of s bytes (Some end) from work) x
+  unfolding parents_of
+  by_rows end = refl

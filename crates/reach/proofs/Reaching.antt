@@ -8,6 +8,7 @@ use lib.Dec.{eqb, lit<}
 use lib.ListN.{length, drop, get_or}
 use lib.Seq.{drop-drop, drop-append-le}
 use mir.Val.{bool_byte}
+use Rattle.std.proofs.Common.{Option, Some, None}
 use Rattle.laws.specs.Pick.{pick}
 use Rattle.laws.specs.Bytes.{bytes_at, written, AllBytes}
 use Rattle.laws.proofs.Written.{length_written, drop_written}
@@ -25,11 +26,10 @@ use Rattle.block_reader.proofs.Reading.{block_at_numbered, told_refused, told_go
 use Rattle.filters.proofs.Keeping.{between_rows}
 use Rattle.query.proofs.Collecting.{one_unloaded}
 use Rattle.reach.specs.declared.Searched.{Searched}
-use Rattle.reach.specs.declared.Parents.{Parents}
 use Rattle.reach.specs.Blocks.{Indexed, Reads, failed, all, also, block_then, read_blocks}
 use Rattle.includes.specs.References.{same, any}
 use Rattle.includes.specs.Includes.{includes_of}
-use Rattle.reach.specs.Reaching.{BlockPlace, AllBlockPlaces, Ready, reached_in, is_reached, next_parents, meets, Marked, searched_of}
+use Rattle.reach.specs.Reaching.{BlockPlace, AllBlockPlaces, Held, Ready, reached_in, parents_of, is_reached, next_parents, meets, Marked, searched_of}
 use Rattle.reach.proofs.Appending.{joined, reads_append, unloaded_append, unloaded_most, placed_append, reached_in_append, parents_append}
 use Rattle.reach.proofs.Any.{any_append}
 use Rattle.block_reader.proofs.Decoding.{read_decodes}
@@ -124,18 +124,23 @@ module _ (k : ℕ) (s : List ℕ) (used : ℕ) (earlier : BlockReference) (paren
 
   module _ {work₀ work : List ℕ} {i u : ℕ} {found : Bool} (h : Reaching k s used earlier parents w from to work₀ work i u found) where
     -- the rows of the parents are as they were
-    pub reaching_parents : (end : ℕ) → between to end work ≡ between to end work₀
+    reaching_rows : (end : ℕ) → between to end work ≡ between to end work₀
     unfolding rows_from
-    reaching_parents end =
+    reaching_rows end =
         between_rows to end work ∙ ap (rows_of (end - to)) h.behind ∙ sym (between_rows to end work₀)
 
-    pub reaching_ready : {bytes : List ℕ} {p : Parents} → Ready s bytes p to work₀ → Ready s bytes p to work
+    pub reaching_parents : (bytes : List ℕ) (p : Option ℕ) → parents_of s bytes p to work ≡ parents_of s bytes p to work₀
+    unfolding parents_of
+    reaching_parents bytes None = refl
+    reaching_parents bytes (Some end) = ap (reached_in s) (reaching_rows end)
+
+    reaching_held : (p : Option ℕ) → Held s p to work₀ → Held s p to work
+    reaching_held None r = tt
+    reaching_held (Some end) r = (omega (arith, r.0, h.as_long), subst (AllBlockPlaces s) (sym (reaching_rows end)) r.1)
+
+    pub reaching_ready : {bytes : List ℕ} {p : Option ℕ} → Ready s bytes p to work₀ → Ready s bytes p to work
     reaching_ready {bytes} {p} r =
-        record {
-          lent = omega (arith, r.lent, h.as_long);
-          placed = subst (AllBlockPlaces s) (sym (reaching_parents p.end)) r.placed;
-          parses = r.parses;
-        }
+        record { held = reaching_held p r.held; parses = r.parses }
 
     pub reaching_few : u + from ≤ i
     unfolding rows_from

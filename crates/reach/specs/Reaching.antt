@@ -1,6 +1,6 @@
 -- For the proofs alone; no promise is stated with it. What the search comes to, a round at a time: which blocks of a round are reached,
 -- by the includes of those reached in the round above.
-use Rattle.std.specs.Prelude.{◌≡◌, Bool, false, List, [], ◌∷◌, ℕ, ◌+◌, ◌*◌, ◌≤◌, eqb, length, get_or}
+use Rattle.std.specs.Prelude.{◌≡◌, Option, None, Some, Bool, false, List, [], ◌∷◌, ℕ, ◌+◌, ◌*◌, ◌≤◌, eqb, length, get_or}
 use Rattle.laws.specs.Pick.{pick}
 use Rattle.laws.specs.Bytes.{bytes_at}
 use Rattle.types.specs.declared.BlockReference.{BlockReference}
@@ -8,7 +8,6 @@ use Rattle.query.specs.Query.{unloaded}
 use Rattle.filters.specs.Segments.{between}
 use Rattle.includes.specs.Includes.{Parses, includes_of}
 use Rattle.reach.specs.declared.Searched.{Searched}
-use Rattle.reach.specs.declared.Parents.{Parents}
 use Rattle.reach.specs.Blocks.{Indexed, Reads, failed, all}
 use Rattle.includes.specs.References.{same, among, any}
 
@@ -28,14 +27,18 @@ reached_in s [] = []
 reached_in s (r ∷ rows) =
     pick (eqb (get_or r 0 0) 0) (reached_in s rows) (includes_of (bytes_at s (get_or r 1 0) (get_or r 2 0)) ∷ reached_in s rows)
 
--- the includes of each parent: of the later block itself, or of those reached among the working rows
-unfoldable pub parents_of : List ℕ → List ℕ → Parents → List (List ℕ) → List (List BlockReference)
-parents_of s bytes p rows = pick p.later (includes_of bytes ∷ []) (reached_in s rows)
+-- the includes of each parent: of the later block itself, or of those reached among the working rows from `from` up to where they end
+unfoldable pub parents_of : List ℕ → List ℕ → Option ℕ → ℕ → List ℕ → List (List BlockReference)
+parents_of s bytes None from work = includes_of bytes ∷ []
+parents_of s bytes (Some end) from work = reached_in s (between from end work)
 
 -- what a search among the parents asks for: their rows, from `from` on, are lent, and their bytes are blocks
-pub record Ready (s bytes : List ℕ) (p : Parents) (from : ℕ) (work : List ℕ) : Type 0 where
-  pub lent : 8 * p.end ≤ length work
-  pub placed : AllBlockPlaces s (between from p.end work)
+abbrev pub Held : List ℕ → Option ℕ → ℕ → List ℕ → Type 0
+Held s None from work = Unit {0}
+Held s (Some end) from work = (8 * end ≤ length work) × AllBlockPlaces s (between from end work)
+
+pub record Ready (s bytes : List ℕ) (p : Option ℕ) (from : ℕ) (work : List ℕ) : Type 0 where
+  pub held : Held s p from work
   pub parses : Parses bytes
 
 -- ---- A round

@@ -13,7 +13,6 @@ ghost use Rattle.includes.specs.References.{same};
 ghost use Rattle.reach.specs.Blocks.{read_blocks};
 ghost use Rattle.reach.specs.Reaching.{AllBlockPlaces, Ready, reached_in, parents_of, is_reached, meets, Marked, searched_of};
 
-use includes::same_reference;
 use types::BlockReference;
 use wal_position::WalPosition;
 
@@ -24,14 +23,6 @@ pub struct Searched {
     pub number: u8,
     pub unloaded: u64,
     pub found: bool,
-}
-
-// Where the blocks of the round above are that were reached: the later block itself, or the working
-// rows up to `end`.
-#[derive(Clone, Copy)]
-pub struct Parents {
-    pub later: bool,
-    pub end: usize,
 }
 
 // Whether one of the blocks reached, of the working rows from `from` up to `to`, includes the reference.
@@ -45,43 +36,40 @@ fn any_includes(
     requires { (8 * to ≤ length work.now) × AllBlockPlaces image.now (between from to work.now) }
     ensures { result ≡ is_reached (reached_in image.now (between from to work.now)) reference }
 {
-    let mut i = from;
-    while i < to {
+    for i in from..to {
         if work[8 * i] != 0 {
             let at = work[8 * i + 1] as usize;
             let end = at + work[8 * i + 2] as usize;
             if includes::includes(&image[at..end], reference) {
                 return true;
             }
-            i += 1;
-        } else {
-            i += 1;
         }
     }
     false
 }
 
-// Whether a parent includes the reference.
+// Whether a parent includes the reference: the later block, or one of those reached of the working rows
+// from `from` up to the end given.
 fn is_reached(
     image: &[u8],
     work: &[u64],
     from: usize,
-    parents: Parents,
+    parents: Option<usize>,
     later: &[u8],
     reference: BlockReference,
 ) -> bool
     requires { Ready image.now later.now parents from work.now }
-    ensures { result ≡ is_reached (parents_of image.now later.now parents
-        (between from parents.end work.now)) reference }
+    ensures { result ≡ is_reached (parents_of image.now later.now parents from work.now) reference }
 {
-    if parents.later {
-        return includes::includes(later, reference);
+    match parents {
+        None => includes::includes(later, reference),
+        Some(end) => any_includes(image, work, from, end, reference),
     }
-    any_includes(image, work, from, parents.end, reference)
 }
 
 // Reads the blocks of the index rows from `from` up to `to`, which are those of a round, and stores in
-// their working rows which of them a parent includes. The parents' rows begin at `to`.
+// their working rows which of them a parent includes. The parents' rows begin at `to`, and where no end of
+// them is given the later block is the parent.
 pub fn reach_round(
     k: u64,
     image: &[u8],
@@ -89,7 +77,7 @@ pub fn reach_round(
     index: &[u64],
     from: usize,
     to: usize,
-    parents: Parents,
+    parents: Option<usize>,
     later: &[u8],
     earlier: BlockReference,
     work: &mut [u64],
@@ -97,19 +85,16 @@ pub fn reach_round(
     requires { (from ≤ to) × (8 * to ≤ length index.now) × (8 * to ≤ length work.old)
         × Ready image.now later.now parents to work.old }
     ensures value { result ≡ searched_of (meets earlier
-        (parents_of image.now later.now parents
-        (between to parents.end work.old))) (between from to index.now)
+        (parents_of image.now later.now parents to work.old)) (between from to index.now)
         (read_blocks k image.now used (between from to index.now)) }
     ensures marked { Marked image.now
-        (parents_of image.now later.now parents
-        (between to parents.end work.old)) (between from to work.new)
+        (parents_of image.now later.now parents to work.old) (between from to work.new)
         (read_blocks k image.now used (between from to index.now)) }
     ensures work_len_unchanged { length work.new ≡ length work.old }
 {
-    let mut i = from;
     let mut unloaded = 0;
     let mut found = false;
-    while i < to {
+    for i in from..to {
         let b = block_reader::read_block(k, image, used, WalPosition(index[8 * i + 6]));
         if b.number != 0 {
             return Searched {
@@ -125,8 +110,7 @@ pub fn reach_round(
             [reached as u64, b.at as u64, b.len as u64, 0, 0, 0, 0, 0],
         );
         found = met(found, reached, b.reference, earlier);
-        unloaded = unloaded + filters::not_loaded(index, i);
-        i += 1;
+        unloaded += filters::not_loaded(index, i);
     }
     Searched {
         number: 0,
@@ -139,11 +123,5 @@ pub fn reach_round(
 fn met(found: bool, reached: bool, reference: BlockReference, earlier: BlockReference) -> bool
     ensures { result ≡ pick found true (pick reached (same reference earlier) false) }
 {
-    if found {
-        return true;
-    }
-    if !reached {
-        return false;
-    }
-    same_reference(reference, earlier)
+    found || reached && reference == earlier
 }

@@ -16,7 +16,7 @@ use Rattle.types.specs.Records.{BlockValue, block}
 use Rattle.commits.specs.Records.{OwnBlockValue, CommitsValue, own_block, commit}
 use Rattle.wal_reader.specs.Entries.{Entry}
 use Rattle.wal.specs.Walk.{Stop}
-use Rattle.tables.specs.declared.Upserted.TheVariants.{Count}
+use Rattle.std.specs.Prelude.{Some}
 use Rattle.rows.specs.Rows.{rows_of}
 use Rattle.tables.specs.Tables.{upserted, upsert_count, put_row}
 use Rattle.index.specs.Keys.{Digested}
@@ -151,7 +151,7 @@ module _ (start : ℕ) (payload : List ℕ) (all : AllBytes payload) {r : BlockR
       which
 
 -- the row of a block joins the store's as it joins the index of the log
-module _ (size own : ℕ) (l : List ReplayEntry) (s : BlockStore) (words : List ℕ) (h : AgreesWith size own l s words) (digested : AllDigested (references (index l))) (ok : Checked s words) (a : Entry) {r : BlockReference} (holds : HoldsBlock a r) (small : r.authority < s.committee_size) {n : ℕ} (counted : upsert_count words s.rows (loaded_row r a.start) ≡ Count n) where
+module _ (size own : ℕ) (l : List ReplayEntry) (s : BlockStore) (words : List ℕ) (h : AgreesWith size own l s words) (digested : AllDigested (references (index l))) (ok : Checked s words) (a : Entry) {r : BlockReference} (holds : HoldsBlock a r) (small : r.authority < s.committee_size) {n : ℕ} (counted : upsert_count words s.rows (loaded_row r a.start) ≡ Some n) where
   pub agrees_block : AgreesWith size own (l ++ (record { entry = a; item = holds.item } ∷ [])) (store_with s r n) (upserted words s.rows (loaded_row r a.start))
   unfolding store_with indexed index_rows loaded_row
   agrees_block =

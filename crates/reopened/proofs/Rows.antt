@@ -10,9 +10,7 @@ use Rattle.laws.specs.Pick.{pick}
 use Rattle.laws.specs.Bytes.{written, zeros}
 use Rattle.laws.proofs.Tests.{leb_cases, eqb_cases}
 use Rattle.wal_position.specs.Checks.{unless}
-use Rattle.rows.specs.declared.Place.{Place}
-use Rattle.rows.specs.declared.Place.TheVariants.{At, Gap}
-use Rattle.tables.specs.declared.Upserted.TheVariants.{Count, Full}
+use Rattle.std.specs.Prelude.{Some, None, Result, Ok, Err}
 use Rattle.rows.specs.Rows.{rows_of, flat, key, compared, place_of, Ascending}
 use Rattle.tables.specs.Tables.{table_of, EightWords, upserted, upsert_count, put_row}
 use Rattle.rows.proofs.Lexicographic.{order_cases}
@@ -32,38 +30,38 @@ use Rattle.reopened.specs.Reopened.{unloaded_row}
 -- ---- A row put into a table, whatever lies behind its rows
 
 module _ (t : List ℕ) (count : ℕ) (fits : 8 * count ≤ length t) (ascends : Ascending (rows_of count t)) (row : List ℕ) (eight : length row ≡ 8) where
-  rows_at : {i n : ℕ} → At i ≡ place_of (key row) (rows_of count t) → upsert_count t count row ≡ Count n
+  rows_at : {i n : ℕ} → Ok i ≡ place_of (key row) (rows_of count t) → upsert_count t count row ≡ Some n
       → rows_of n (upserted t count row) ≡ put_row row (rows_of count t)
   rows_at {i} {n} is counted =
       let at = at_place (key row) (rows_of count t) is in
-      let same : Count count ≡ Count n = at_count t count row is ∙ counted in
+      let same : Some count ≡ Some n = at_count t count row is ∙ counted in
       let n_is : count ≡ n = cc in
       ap₂ (λ (m : ℕ) (w : List ℕ). rows_of m w) (sym n_is) (sym (at_words t count row is))
       ∙ rows_of_put t count i row eight (at_within t count row is ascends) fits
       ∙ ap (λ (j : ℕ). set (rows_of count t) j row) at.1
       ∙ sym (put_present row (rows_of count t) ascends at.0)
 
-  rows_gap : {i n : ℕ} → Gap i ≡ place_of (key row) (rows_of count t) → 8 * count + 8 ≤ length t → upsert_count t count row ≡ Count n
+  rows_gap : {i n : ℕ} → Err i ≡ place_of (key row) (rows_of count t) → 8 * count + 8 ≤ length t → upsert_count t count row ≡ Some n
       → rows_of n (upserted t count row) ≡ put_row row (rows_of count t)
   rows_gap {i} {n} is room counted =
       let gap = gap_place (key row) (rows_of count t) is in
-      let same : Count (count + 1) ≡ Count n = gap_count t count row is room ∙ counted in
+      let same : Some (count + 1) ≡ Some n = gap_count t count row is room ∙ counted in
       let n_is : count + 1 ≡ n = cc in
       ap₂ (λ (m : ℕ) (w : List ℕ). rows_of m w) (sym n_is) (sym (gap_words t count row is room))
       ∙ rows_of_inserted t count i row (gap_within t count row is) room eight
       ∙ ap (λ (j : ℕ). take j (rows_of count t) ++ row ∷ drop j (rows_of count t)) gap.1
       ∙ sym (put_absent row (rows_of count t) ascends gap.0)
 
-  pub rows_upserted : {n : ℕ} → upsert_count t count row ≡ Count n → rows_of n (upserted t count row) ≡ put_row row (rows_of count t)
+  pub rows_upserted : {n : ℕ} → upsert_count t count row ≡ Some n → rows_of n (upserted t count row) ≡ put_row row (rows_of count t)
   rows_upserted {n} counted = from (place_of (key row) (rows_of count t)) refl
     where
-      from : (p : Place) → p ≡ place_of (key row) (rows_of count t) → rows_of n (upserted t count row) ≡ put_row row (rows_of count t)
-      from (At i) is = rows_at is counted
-      from (Gap i) is =
+      from : (p : Result ℕ ℕ) → p ≡ place_of (key row) (rows_of count t) → rows_of n (upserted t count row) ≡ put_row row (rows_of count t)
+      from (Ok i) is = rows_at is counted
+      from (Err i) is =
           ⊎_elim
           (λ y. rows_gap is y.1 counted)
           (λ f.
-          let full : Full ≡ Count n = full_count t count row is f.1 ∙ counted in
+          let full : None ≡ Some n = full_count t count row is f.1 ∙ counted in
           let z : ◌≡◌ {A = ℕ} 0 1 = cc in
           absurd (omega arith))
           (leb_cases (8 * count + 8) (length t))

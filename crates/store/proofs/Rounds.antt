@@ -6,12 +6,12 @@ use Prim.Native.Nat.{ℕ, ◌≤◌, ◌<◌}
 use native.Mathlib.Omega.{arith}
 use lib.ListN.{length, take, get_or}
 use Rattle.laws.proofs.Tests.{leb_cases}
-use Rattle.rows.specs.declared.Order.TheVariants.{Below}
+use Rattle.std.specs.declared.cmp.Ordering.TheVariants.{Less}
 use Rattle.rows.specs.Rows.{key, compared, Ascending}
 use Rattle.tables.specs.Tables.{EightWords}
 use Rattle.rows.proofs.Lexicographic.{not_above, first_above}
 
-first_ascends : (r s : List ℕ) → 1 ≤ length r → 1 ≤ length s → compared (key r) (key s) ≡ Below → get_or r 0 0 ≤ get_or s 0 0
+first_ascends : (r s : List ℕ) → 1 ≤ length r → 1 ≤ length s → compared (key r) (key s) ≡ Less → get_or r 0 0 ≤ get_or s 0 0
 unfolding key
 first_ascends [] s h k l = absurd (omega arith)
 first_ascends (x ∷ r) [] h k l = absurd (omega arith)

@@ -5,15 +5,14 @@
 // checks with which its calls begin.
 #![tactic(auto)]
 
-ghost use Rattle.std.specs.Prelude.{◌≡◌, true, false, ◌+◌, ◌*◌, ◌≤◌, leb, ltb, length, get_or};
+ghost use Rattle.std.specs.Prelude.{◌≡◌, false, ◌*◌, ◌≤◌, length};
 ghost use Rattle.laws.specs.Pick.{pick};
 ghost use Rattle.rows.specs.Rows.{rows_of, ascendingb};
 ghost use Rattle.store.specs.Store.{authorities_below, store_check, call_check, open_number, opened, last_seen_of};
 
-use index::{FoundReference, StoreSummary};
+use index::StoreSummary;
 use recovered::Recovered;
-use rows::Order;
-use types::{AuthorityIndex, RoundNumber};
+use types::{AuthorityIndex, BlockReference, RoundNumber};
 use wal::Walked;
 
 // The committee's size and the own authority, the index rows counted, the blocks read from the log
@@ -51,19 +50,17 @@ impl BlockStore {
     pub fn open(committee_size: u64, authority: AuthorityIndex, recovered: Recovered) -> Opened
         ensures { result ≡ opened committee_size authority recovered }
     {
-        let walked = recovered.walked;
-        let number = open_number(walked, committee_size, authority);
-        let replay = recovered.replay;
-        let blocks = replay.blocks;
-        let summary = blocks.summary;
-        let store = BlockStore {
-            committee_size,
-            authority,
-            rows: blocks.index,
-            loads: 0,
-            summary,
-        };
-        Opened { number, store }
+        let blocks = recovered.replay.blocks;
+        Opened {
+            number: open_number(recovered.walked, committee_size, authority),
+            store: BlockStore {
+                committee_size,
+                authority,
+                rows: blocks.index,
+                loads: 0,
+                summary: blocks.summary,
+            },
+        }
     }
 
     pub fn len_expensive(self) -> usize
@@ -75,27 +72,21 @@ impl BlockStore {
     pub fn highest_round(self) -> RoundNumber
         ensures { result ≡ self.summary.highest_round }
     {
-        let summary = self.summary;
-        summary.highest_round
+        self.summary.highest_round
     }
 
     // 0 for an authority that has no block.
     pub fn last_seen_by_authority(self, authority: AuthorityIndex) -> RoundNumber
         ensures { result ≡ last_seen_of self authority }
     {
-        let summary = self.summary;
-        let rounds = summary.last_seen_by_authority;
-        if 128 <= authority {
-            return 0;
-        }
-        rounds[authority as usize]
+        let rounds = self.summary.last_seen_by_authority;
+        rounds.get(authority as usize).copied().unwrap_or(0)
     }
 
-    pub fn last_own_block_ref(self) -> FoundReference
+    pub fn last_own_block_ref(self) -> Option<BlockReference>
         ensures { result ≡ self.summary.last_own_block }
     {
-        let summary = self.summary;
-        summary.last_own_block
+        self.summary.last_own_block
     }
 }
 
@@ -106,29 +97,16 @@ fn check_rows(index: &[u64], count: usize, size: u64) -> bool
     ensures { result ≡ pick (ascendingb (rows_of count index.now))
         (authorities_below size (rows_of count index.now)) false }
 {
-    let mut i = 0;
-    while i + 1 < count {
-        if size <= index[8 * i + 1] {
+    for i in 1..count {
+        let before = i - 1;
+        if size <= index[8 * before + 1] {
             return false;
         }
-        match rows::compare_key(index, i, rows::key_at(index, i + 1)) {
-            Order::Below => i += 1,
-            Order::Equal => return false,
-            Order::Above => return false,
+        if rows::compare_key(index, before, rows::key_at(index, i)).is_ge() {
+            return false;
         }
     }
-    check_last(index, count, i, size)
-}
-
-// The authority of row i, if there is such a row.
-fn check_last(index: &[u64], count: usize, i: usize, size: u64) -> bool
-    requires { 8 * count ≤ length index.now }
-    ensures { result ≡ pick (leb count i) true (ltb (get_or index.now (8 * i + 1) 0) size) }
-{
-    if count <= i {
-        return true;
-    }
-    index[8 * i + 1] < size
+    count == 0 || index[8 * (count - 1) + 1] < size
 }
 
 // The check 18 of a lent store: 0, or the refusal's number.
@@ -139,10 +117,7 @@ pub fn check_store(store: BlockStore, index: &[u64]) -> u8
     if number != 0 {
         return number;
     }
-    if index.len() / 8 < store.rows {
-        return 18;
-    }
-    if !check_rows(index, store.rows, store.committee_size) {
+    if index.len() / 8 < store.rows || !check_rows(index, store.rows, store.committee_size) {
         return 18;
     }
     0

@@ -4,6 +4,8 @@ use mathlib.Core.Path.{◌≡◌, refl, sym, ap, ◌∙◌}
 use mathlib.Core.List.{List, [], ◌∷◌}
 use mathlib.Core.Logic.{⊎_elim}
 use mathlib.Core.Option.{none, some}
+use Rattle.std.specs.Prelude.{Option, Some, None}
+use Rattle.bincode.specs.declared.Cursor.{Cursor}
 use Prim.Native.Nat.{ℕ, zero, suc, ◌+◌, ◌≤◌, ◌<◌}
 use native.Mathlib.Omega.{arith}
 use lib.ListN.{length, take, drop, get_or}
@@ -18,8 +20,6 @@ use Rattle.types.specs.declared.BlockReference.{BlockReference}
 use Rattle.types.specs.Records.{StatementValue, share, statement, BlockValue, block}
 use Rattle.blocks.specs.Answers.{statement_block}
 use Rattle.blocks.proofs.Passes.{runs, block_statement_step}
-use Rattle.state.specs.declared.Span.{Span}
-use Rattle.state.specs.declared.Span.TheVariants.{Nothing, At}
 use Rattle.store.specs.declared.BlockStore.{BlockStore}
 use Rattle.block_reader.specs.Reading as reading
 use Rattle.block_reader.specs.Reading.{block_at}
@@ -63,10 +63,10 @@ part_of_part : (s : List ℕ) (p n q m : ℕ) → q + m ≤ n → bytes_at (byte
 unfolding bytes_at
 part_of_part s p n q m h = bytes_at_take (drop p s) n q m h ∙ ap (take m) (drop-drop q p s)
 
-named_placed : (s : List ℕ) (at n : ℕ) (t : Span) → span_end t ≤ n → named s (placed at t) ≡ named (bytes_at s at n) t
+named_placed : (s : List ℕ) (at n : ℕ) (t : Option Cursor) → span_end t ≤ n → named s (placed at t) ≡ named (bytes_at s at n) t
 unfolding named placed span_end
-named_placed s at n Nothing h = refl
-named_placed s at n (At p m) h = ap (λ (l : List ℕ). some l) (sym (part_of_part s at n p m h))
+named_placed s at n None h = refl
+named_placed s at n (Some c) h = ap (λ (l : List ℕ). some l) (sym (part_of_part s at n c.at c.left h))
 
 -- what is answered for a row whose block was read: the block decodes at its place, with the reference that was read
 pub record Names (k : ℕ) (s : List ℕ) (used : ℕ) (store : BlockStore) (offset : ℕ) (row : List ℕ) (r : BlockReference) (at n : ℕ) : Type 0 where
@@ -79,7 +79,7 @@ pub transaction_named : (k : ℕ) (s : List ℕ) (used : ℕ) (store : BlockStor
 unfolding transaction_of
 transaction_named k s used store offset row all {r} {at} {n} is =
     let d : Decoded s r at n = read_decodes k s used (get_or row 6 0) all is in
-    let t : Span = share_in (bytes_at s at n) offset in
+    let t : Option Cursor = share_in (bytes_at s at n) offset in
     let lies : span_end t ≤ n = omega (arith, share_within (bytes_at s at n) offset, length_bytes_at s at n d.within) in
     record {
       block = d;

@@ -2,7 +2,8 @@
 use mathlib.Core.Path.{◌≡◌, refl, sym, ap, ◌∙◌, subst}
 use mathlib.Core.Bool.{Bool, true, false}
 use mathlib.Core.List.{List}
-use mathlib.Core.Option.{Option, none, some}
+use mathlib.Core.Option.{Option as Optional, none, some}
+use Rattle.std.specs.Prelude.{Option, Some, None}
 use Prim.Native.Nat.{ℕ, ◌+◌, ◌-◌, ◌≤◌, ◌<◌}
 use native.Mathlib.Omega.{arith}
 use lib.Dec.{eqb}
@@ -10,7 +11,6 @@ use lib.ListN.{length}
 use Rattle.laws.specs.Pick.{pick}
 use Rattle.laws.specs.Bytes.{bytes_at}
 use Rattle.laws.specs.Parse.{Res, bad, got, then, number, answer}
-use Rattle.laws.proofs.Parses.{found_none, found_some, answered}
 use Rattle.bincode.specs.declared.Cursor.{Cursor}
 use Rattle.bincode.specs.Bincode.{byte_string}
 use Rattle.bincode.specs.Cursors.{next_element, past, after}
@@ -18,94 +18,88 @@ use Rattle.bincode.proofs.Rules.{bytes_found}
 use Rattle.types.specs.declared.TransactionLocator.{TransactionLocator}
 use Rattle.types.specs.declared.TransactionLocatorRange.{TransactionLocatorRange}
 use Rattle.types.specs.Records.{VoteValue, StatementValue, share, vote_on, vote_range, statement, locator, range, vote, BlockValue, block}
-use Rattle.statements.specs.declared.StatementKind.{StatementKind}
-use Rattle.statements.specs.declared.StatementKind.TheVariants as kind
-use Rattle.statements.specs.declared.NextStatement.{NextStatement}
-use Rattle.statements.specs.Answers.{statement_of, no_next_statement, next_statement_answer}
-use Rattle.state.specs.declared.Span.{Span}
-use Rattle.state.specs.declared.Span.TheVariants.{Nothing, At}
-use Rattle.blocks.specs.declared.DecodedBlock.{DecodedBlock}
-use Rattle.blocks.specs.Answers.{statement_block, no_block, block_answer}
-use Rattle.blocks.proofs.Found.{block_bad}
+use Rattle.statements.specs.declared.BaseStatement.{BaseStatement}
+use Rattle.statements.specs.declared.BaseStatement.TheVariants.{Share, Vote, VoteRange}
+use Rattle.statements.specs.Answers.{statement_of}
+use Rattle.blocks.specs.declared.StatementBlock.{StatementBlock}
+use Rattle.blocks.specs.Answers.{statement_block}
+use Rattle.bincode.specs.Answers.{decoded_as, next_answer}
+use Rattle.bincode.proofs.Found.{told_as, told_none, told_next, next_nothing}
 use Rattle.transaction.specs.Transaction.{share_of, share_in, share_bytes, named}
 use Rattle.transaction.proofs.Steps.{Stepping, stepping_next, stepping_none, stepping_end}
 
 -- ---- A step
 
--- what the code answers for a statement of a kind, with its place and number
-abbrev pub share_of_kind : StatementKind → ℕ → ℕ → Span
-share_of_kind kind.Share at n = At at n
-share_of_kind kind.Vote at n = Nothing
-share_of_kind kind.VoteRange at n = Nothing
+-- what the code answers for a statement
+abbrev pub share_of_statement : BaseStatement → Option Cursor
+share_of_statement (Share bytes) = Some bytes
+share_of_statement (Vote l v) = None
+share_of_statement (VoteRange r) = None
 
-value_share : (v : StatementValue) (e : ℕ)
-    → share_of_kind (statement_of v e).kind (statement_of v e).start (statement_of v e).count ≡ share_of (got v e)
+value_share : (v : StatementValue) (e : ℕ) → share_of_statement (statement_of v e) ≡ share_of (got v e)
 unfolding share_of
 value_share (share bytes) e = refl
 value_share (vote_on l v) e = refl
 value_share (vote_range r) e = refl
 
-module _ (c : Cursor) (x : Res StatementValue) {r : NextStatement} (is : r ≡ next_statement_answer c x) where
-  pub no_statement_lem : r.ok ≡ false → x ≡ bad
-  no_statement_lem e = found_none no_next_statement _ (λ r. r.ok) (λ v e. refl) x is e
+module _ (c : Cursor) (x : Res StatementValue) where
+  pub no_statement : None ≡ next_answer statement_of c x → x ≡ bad
+  no_statement h = next_nothing statement_of c x h
 
-  pub some_statement : r.ok ≡ true → (v : StatementValue) × (x ≡ got v r.rest.at) × (r.rest ≡ past c r.rest.at)
-  some_statement e =
-      let g = found_some no_next_statement _ (λ r. r.ok) refl (λ r. r.rest.at) (λ v e. refl) x is e in
-      (g.0, g.1, ap (λ (r : NextStatement). r.rest) g.2)
+  pub some_statement : {b : BaseStatement} {r : Cursor} → Some (b, r) ≡ next_answer statement_of c x
+      → (v : StatementValue) × (e : ℕ) × (x ≡ got v e) × (b ≡ statement_of v e) × (r ≡ past c e)
+  some_statement h = told_next statement_of c x h
 
-  pub share_none : r.ok ≡ false → Nothing ≡ share_of x
+  pub share_none : None ≡ next_answer statement_of c x → None ≡ share_of x
   unfolding share_of
-  share_none e = sym (ap share_of (no_statement_lem e))
+  share_none h = sym (ap share_of (no_statement h))
 
-  pub share_kind : r.ok ≡ true → {k : StatementKind} → r.statement.kind ≡ k
-      → share_of_kind k r.statement.start r.statement.count ≡ share_of x
-  share_kind e same =
-      let g = found_some no_next_statement _ (λ r. r.ok) refl (λ r. r.rest.at) (λ v e. refl) x is e in
-      ap (λ (k : StatementKind). share_of_kind k r.statement.start r.statement.count) (sym same)
-      ∙ ap (λ (r : NextStatement). share_of_kind r.statement.kind r.statement.start r.statement.count) g.2
-      ∙ value_share g.0 r.rest.at
-      ∙ ap share_of (sym g.1)
+  pub share_kind : {b : BaseStatement} {r : Cursor} → Some (b, r) ≡ next_answer statement_of c x → share_of_statement b ≡ share_of x
+  share_kind h =
+      let g = some_statement h in
+      ap share_of_statement g.3 ∙ value_share g.0 g.1 ∙ ap share_of (sym g.2)
 
 -- ---- The loop
 
 module _ (s : List ℕ) (offset : ℕ) where
   pub stepped : {c₀ : Cursor} {i : ℕ} {c : Cursor} → Stepping statement s offset c₀ i c → i < offset
-      → {r : NextStatement} → r ≡ next_statement_answer c (next_element statement s c) → r.ok ≡ true → Stepping statement s offset c₀ (i + 1) r.rest
-  stepped {c₀} {i} {c} h more is ok =
-      let found = some_statement c (next_element statement s c) is ok in
-      subst (λ (c : Cursor). Stepping statement s offset c₀ (i + 1) c) (sym found.2) (stepping_next statement s h more found.1)
+      → {b : BaseStatement} {r : Cursor} → Some (b, r) ≡ next_answer statement_of c (next_element statement s c)
+      → Stepping statement s offset c₀ (i + 1) r
+  stepped {c₀} {i} {c} h more found =
+      let g = some_statement c (next_element statement s c) found in
+      subst (λ (c : Cursor). Stepping statement s offset c₀ (i + 1) c) (sym g.4) (stepping_next statement s h more g.2)
 
-  module _ {d : DecodedBlock} (is : d ≡ block_answer 0 (block s 0)) where
-    pub undecoded : d.ok ≡ false → Nothing ≡ share_in s offset
+  pub undecoded : None ≡ decoded_as (λ b e. statement_block 0 b) (block s 0) → None ≡ share_in s offset
+  unfolding share_in answer
+  undecoded h = sym (rw (told_none _ (block s 0) h))
+
+  module _ {b : StatementBlock} {e : ℕ} (is : Some (b, e) ≡ decoded_as (λ b e. statement_block 0 b) (block s 0)) where
+    decoded : share_of (next_element statement s (after statement s offset b.statements)) ≡ share_in s offset
     unfolding share_in answer
-    undecoded e = sym (rw (block_bad 0 (block s 0) is e))
+    decoded =
+        let found = told_as (λ b e. statement_block 0 b) (block s 0) is in
+        rw found.1 (ap (λ (b : StatementBlock). share_of (next_element statement s (after statement s offset b.statements))) found.2)
 
-    decoded : d.ok ≡ true → share_of (next_element statement s (after statement s offset d.block.statements)) ≡ share_in s offset
-    unfolding share_in
-    decoded e =
-        answered no_block _ Nothing _ (λ d. d.ok) refl
-        (λ (d : DecodedBlock). share_of (next_element statement s (after statement s offset d.block.statements))) (λ b e. refl) (block s 0) is e
-
-    module _ (ok : d.ok ≡ true) {i : ℕ} {c : Cursor} (h : Stepping statement s offset d.block.statements i c) where
-      pub stopped : next_element statement s c ≡ bad → Nothing ≡ share_in s offset
+    module _ {i : ℕ} {c : Cursor} (h : Stepping statement s offset b.statements i c) where
+      pub stopped : None ≡ next_answer statement_of c (next_element statement s c) → None ≡ share_in s offset
       unfolding share_of
-      stopped b = ap share_of (sym (stepping_none statement s h b)) ∙ decoded ok
+      stopped h' =
+          ap share_of (sym (stepping_none statement s h (no_statement c (next_element statement s c) h'))) ∙ decoded
 
       pub reached : offset ≤ i → share_of (next_element statement s c) ≡ share_in s offset
-      reached all = ap (λ (c : Cursor). share_of (next_element statement s c)) (sym (stepping_end statement s h all)) ∙ decoded ok
+      reached all = ap (λ (c : Cursor). share_of (next_element statement s c)) (sym (stepping_end statement s h all)) ∙ decoded
 
 -- ---- What it names
 
 -- the transaction in what a parser of statements finds
-unfoldable pub given : Res StatementValue → Option (List ℕ)
+unfoldable pub given : Res StatementValue → Optional (List ℕ)
 given bad = none
 given (got v e) = share_bytes v
 
 -- where the bytes that it names end
-unfoldable pub span_end : Span → ℕ
-span_end Nothing = 0
-span_end (At p n) = p + n
+unfoldable pub span_end : Option Cursor → ℕ
+span_end None = 0
+span_end (Some c) = c.at + c.left
 
 -- a Share that was found lies in s, and its bytes are there
 pub record Lies (s : List ℕ) (x : Res StatementValue) : Type 0 where
@@ -163,7 +157,7 @@ module _ (s : List ℕ) where
     where
       by : (x : Res BlockValue)
           → span_end
-          (answer Nothing
+          (answer None
           (λ (b : BlockValue) e. share_of (next_element statement s (after statement s offset (statement_block 0 b).statements))) x)
           ≤ length s
       by bad = omega arith

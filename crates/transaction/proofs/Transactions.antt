@@ -11,12 +11,11 @@ use Rattle.laws.specs.Bytes.{bytes_at}
 use Rattle.laws.proofs.Written.{length_bytes_at}
 use Rattle.types.specs.declared.BlockReference.{BlockReference}
 use Rattle.wal_position.proofs.Checks.{unless_passed, unless_refused}
-use Rattle.rows.specs.declared.Place.TheVariants.{At}
 use Rattle.rows.specs.Rows.{rows_of, row_at, Ascending, place_of}
 use Rattle.rows.proofs.Rows.{rows_from_none, rows_from_cons}
 use Rattle.index.specs.Keys.{key_words}
-use Rattle.state.specs.declared.Span.{Span}
-use Rattle.state.specs.declared.Span.TheVariants as span
+use Rattle.std.specs.Prelude.{Option, Some, None, Ok}
+use Rattle.bincode.specs.declared.Cursor.{Cursor}
 use Rattle.store.specs.declared.BlockStore.{BlockStore}
 use Rattle.block_reader.specs.declared.ReadBlock.{ReadBlock}
 use Rattle.block_reader.specs.Reading.{block_at, read_of}
@@ -36,14 +35,14 @@ use Rattle.block_reader.proofs.Blocks.{block_got, block_within}
 
 -- ---- A Share behind the block's place
 
-module _ (at : ℕ) {t : Span} where
-  pub placed_none : t ≡ span.Nothing → span.Nothing ≡ placed at t
+module _ (at : ℕ) {t : Option Cursor} where
+  pub placed_none : None ≡ t → None ≡ placed at t
   unfolding placed
-  placed_none e = sym (rw e)
+  placed_none e = ap (placed at) e
 
-  pub placed_there : {p n : ℕ} → t ≡ span.At p n → span.At (at + p) n ≡ placed at t
+  pub placed_there : {c : Cursor} → Some c ≡ t → Some (record { at = at + c.at; left = c.left }) ≡ placed at t
   unfolding placed
-  placed_there e = sym (rw e)
+  placed_there e = ap (placed at) e
 
 -- ---- The transaction of a row
 
@@ -76,28 +75,28 @@ module _ (k : ℕ) (s : List ℕ) (used : ℕ) (store : BlockStore) (offset : �
       (ap (block_at k s used) position
       ∙ told_refused (block_at k s used (get_or w (8 * i + 6) 0)) (block_at_numbered k s used (get_or w (8 * i + 6) 0)) is found)
 
-  module _ (none : b.number ≡ 0) {t : Span} (share_is : t ≡ share_in (bytes_at s b.at b.len) offset) where
+  module _ (none : b.number ≡ 0) {t : Option Cursor} (share_is : t ≡ share_in (bytes_at s b.at b.len) offset) where
     -- the Share lies in the image
-    pub row_within : {p n : ℕ} → t ≡ span.At p n → b.at + p ≤ length s
+    pub row_within : {c : Cursor} → t ≡ Some c → b.at + c.at ≤ length s
     unfolding span_end
-    row_within {p} {n} there =
+    row_within {c} there =
         let within : b.at + b.len ≤ length s = block_within k s used (get_or w (8 * i + 6) 0) is none in
-        let end : p + n ≡ span_end (share_in (bytes_at s b.at b.len) offset) = ap span_end (sym there ∙ share_is) in
+        let end : c.at + c.left ≡ span_end (share_in (bytes_at s b.at b.len) offset) = ap span_end (sym there ∙ share_is) in
         omega (arith, end, share_within (bytes_at s b.at b.len) offset, length_bytes_at s b.at b.len within)
 
     pub row_answer : {n : ℕ} {u : BlockStore} → n ≡ pick (eqb (get_or w (8 * i + 7) 0) 0) 1 0 → u ≡ counted store n
-        → {x : Span} → x ≡ placed b.at t
+        → {x : Option Cursor} → x ≡ placed b.at t
         → ◌≡◌ {A = FoundTransaction} (record { number = 0; share = x; store = u }) (transaction_of k s used store offset (row_at w i ∷ []))
     row_answer {n} {u} loads Store-is {x} share_at =
         let load : n ≡ unloaded (row_at w i ∷ []) =
         loads ∙ ap (λ (x : ℕ). pick (eqb x 0) 1 0) (sym (word_row_at w i 7 (lit< tt))) ∙ sym (one_load (row_at w i)) in
-        ap₂ (λ (x : Span) (u : BlockStore). record { number = 0; share = x; store = u })
+        ap₂ (λ (x : Option Cursor) (u : BlockStore). record { number = 0; share = x; store = u })
         (share_at ∙ ap (placed b.at) share_is) (Store-is ∙ ap (counted store) load)
         ∙ of_got k s used store offset (row_at w i) (ap (block_at k s used) position ∙ block_got k s used (get_or w (8 * i + 6) 0) is none)
 
 -- ---- The row of a reference
 
-module _ (w : List ℕ) (count : ℕ) (fits : 8 * count ≤ length w) (ascends : Ascending (rows_of count w)) (x : BlockReference) {i : ℕ} (is : At i ≡ place_of (key_words x) (rows_of count w)) where
+module _ (w : List ℕ) (count : ℕ) (fits : 8 * count ≤ length w) (ascends : Ascending (rows_of count w)) (x : BlockReference) {i : ℕ} (is : Ok i ≡ place_of (key_words x) (rows_of count w)) where
   pub row_fits : 8 * i + 8 ≤ length w
   row_fits = omega (arith, (at_reference w count fits ascends x is).0)
 
@@ -106,7 +105,7 @@ module _ (w : List ℕ) (count : ℕ) (fits : 8 * count ≤ length w) (ascends :
       ap (λ (l : List (List ℕ)). row_at w i ∷ l) (sym (rows_from_none w (i + 1) (i + 1) (omega arith)))
       ∙ sym (rows_from_cons w i (i + 1) (omega arith))
       ∙ sym (between_rows i (i + 1) w)
-      ∙ sym (chosen_every 0 1 (between i (i + 1) w) (omega (arith, length_between i (i + 1) w)))
+      ∙ sym (chosen_every 1 (between i (i + 1) w) (omega (arith, length_between i (i + 1) w)))
       ∙ (at_reference w count fits ascends x is).1
 
 -- ---- A call

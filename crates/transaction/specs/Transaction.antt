@@ -1,15 +1,14 @@
 -- A transaction by its locator. Document 01, "Lookups": "transaction (only a Share gives one)".
-use Rattle.std.specs.Prelude.{List, [], ◌∷◌, ℕ, zero, suc, ◌+◌, ◌-◌, length, get_or}
-use Rattle.std.proofs.Math.Option.{Option, none, some}
+use Rattle.std.specs.Prelude.{List, [], ◌∷◌, ℕ, zero, suc, ◌+◌, ◌-◌, length, get_or, Option, Some, None}
+use Rattle.std.proofs.Math.Option.{Option as Optional, none, some}
 use Rattle.laws.specs.Bytes.{bytes_at}
 use Rattle.laws.specs.Parse.{Res, bad, got, answer}
+use Rattle.bincode.specs.declared.Cursor.{Cursor}
 use Rattle.bincode.specs.Cursors.{next_element, after}
 use Rattle.types.specs.declared.TransactionLocator.{TransactionLocator}
 use Rattle.types.specs.Records.{StatementValue, share, vote_on, vote_range, statement, BlockValue, block}
 use Rattle.blocks.specs.Answers as blocks
 use Rattle.wal_position.specs.Checks.{unless}
-use Rattle.state.specs.declared.Span.{Span}
-use Rattle.state.specs.declared.Span.TheVariants.{Nothing, At}
 use Rattle.store.specs.declared.BlockStore.{BlockStore}
 use Rattle.store.specs.Store.{indexed, call_check}
 use Rattle.block_reader.specs.Reading as reading
@@ -19,30 +18,30 @@ use Rattle.query.specs.Query.{unloaded, counted}
 use Rattle.transaction.specs.declared.FoundTransaction.{FoundTransaction}
 
 -- the bytes of a Share end where the statement does; no other statement gives any
-unfoldable pub share_of : Res StatementValue → Span
-share_of bad = Nothing
-share_of (got (share bytes) e) = At (e - length bytes) (length bytes)
-share_of (got (vote_on l v) e) = Nothing
-share_of (got (vote_range r) e) = Nothing
+unfoldable pub share_of : Res StatementValue → Option Cursor
+share_of bad = None
+share_of (got (share bytes) e) = Some (record { at = e - length bytes; left = length bytes })
+share_of (got (vote_on l v) e) = None
+share_of (got (vote_range r) e) = None
 
 -- the statement with this offset in a block's bytes; there is none past the last
-unfoldable pub share_in : List ℕ → ℕ → Span
+unfoldable pub share_in : List ℕ → ℕ → Option Cursor
 share_in s offset =
-    answer Nothing
+    answer None
     (λ (b : BlockValue) e. share_of (next_element statement s (after statement s offset (blocks.statement_block 0 b).statements)))
     (block s 0)
 
 -- behind a block's place in the image
-unfoldable pub placed : ℕ → Span → Span
-placed at Nothing = Nothing
-placed at (At p n) = At (at + p) n
+unfoldable pub placed : ℕ → Option Cursor → Option Cursor
+placed at None = None
+placed at (Some c) = Some (record { at = at + c.at; left = c.left })
 
 unfoldable pub refused_transaction : ℕ → BlockStore → FoundTransaction
-refused_transaction n s = record { number = n; share = Nothing; store = s }
+refused_transaction n s = record { number = n; share = None; store = s }
 
 -- of the row with the locator's reference, if there is one: the block is read, and its load counted, before the offset is looked at
 unfoldable pub transaction_of : ℕ → List ℕ → ℕ → BlockStore → ℕ → List (List ℕ) → FoundTransaction
-transaction_of k s used store offset [] = record { number = 0; share = Nothing; store = store }
+transaction_of k s used store offset [] = record { number = 0; share = None; store = store }
 transaction_of k s used store offset (r ∷ rows) = from (block_at k s used (get_or r 6 0))
   where
     from : BlockRead → FoundTransaction
@@ -65,18 +64,18 @@ get_transaction k image used store index locator =
 -- `transaction_named`)
 
 -- "only a Share gives one"
-unfoldable pub share_bytes : StatementValue → Option (List ℕ)
+unfoldable pub share_bytes : StatementValue → Optional (List ℕ)
 share_bytes (share bytes) = some bytes
 share_bytes (vote_on l v) = none
 share_bytes (vote_range r) = none
 
 -- the statement with this offset among a block's
-unfoldable pub transaction_in : List StatementValue → ℕ → Option (List ℕ)
+unfoldable pub transaction_in : List StatementValue → ℕ → Optional (List ℕ)
 transaction_in [] offset = none
 transaction_in (v ∷ later) zero = share_bytes v
 transaction_in (v ∷ later) (suc offset) = transaction_in later offset
 
 -- the bytes of s that an answer names
-unfoldable pub named : List ℕ → Span → Option (List ℕ)
-named s Nothing = none
-named s (At p n) = some (bytes_at s p n)
+unfoldable pub named : List ℕ → Option Cursor → Optional (List ℕ)
+named s None = none
+named s (Some c) = some (bytes_at s c.at c.left)

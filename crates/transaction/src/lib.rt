@@ -10,67 +10,54 @@ ghost use Rattle.types.specs.Records.{statement};
 ghost use Rattle.rows.specs.Rows.{row_at};
 ghost use Rattle.transaction.specs.Transaction.{share_of, share_in, refused_transaction, transaction_of, get_transaction};
 
-use bincode::Cursor;
-use rows::Place;
-use state::Span;
-use statements::StatementKind;
+use bincode::{Cursor, Decode};
+use blocks::StatementBlock;
+use statements::BaseStatement;
 use store::BlockStore;
 use types::TransactionLocator;
 use wal_position::WalPosition;
 
-// A refusal's number, or 0 and the transaction, if there is one; and the store with the load counted.
+// A refusal's number, or 0 and the place of the transaction's bytes, if there is one; and the store with
+// the load counted.
 #[derive(Clone, Copy)]
 pub struct FoundTransaction {
     pub number: u8,
-    pub share: Span,
+    pub share: Option<Cursor>,
     pub store: BlockStore,
 }
 
 // The bytes of the Share with this offset among a block's statements.
-pub fn share_in(block: &[u8], offset: u64) -> Span
+pub fn share_in(block: &[u8], offset: u64) -> Option<Cursor>
     ensures { result ≡ share_in block.now offset }
 {
-    let d = blocks::decode_block(block, 0);
-    if !d.ok {
-        return Span::Nothing;
-    }
-    let b = d.block;
+    let (b, _) = StatementBlock::decode(block, 0)?;
     let mut c = b.statements;
-    let mut i = 0;
-    while i < offset {
-        let s = statements::next_statement(block, c);
-        if !s.ok {
-            return Span::Nothing;
-        }
-        c = s.rest;
-        i += 1;
+    for _ in 0..offset {
+        let (_, rest) = bincode::next::<BaseStatement>(block, c)?;
+        c = rest;
     }
     share_at(block, c)
 }
 
 // The bytes of the Share at a cursor's place.
-fn share_at(block: &[u8], c: Cursor) -> Span
+fn share_at(block: &[u8], c: Cursor) -> Option<Cursor>
     ensures { result ≡ share_of (next_element statement block.now c) }
 {
-    let s = statements::next_statement(block, c);
-    if !s.ok {
-        return Span::Nothing;
-    }
-    let t = s.statement;
-    let kind = t.kind;
-    match kind {
-        StatementKind::Share => Span::At(t.start, t.count),
-        StatementKind::Vote => Span::Nothing,
-        StatementKind::VoteRange => Span::Nothing,
+    let (found, _) = bincode::next::<BaseStatement>(block, c)?;
+    match found {
+        BaseStatement::Share(bytes) => Some(bytes),
+        BaseStatement::Vote(_, _) => None,
+        BaseStatement::VoteRange(_) => None,
     }
 }
 
+#[tactic(auto, unfolding(crate::specs::Transaction::refused_transaction))]
 fn refuse(number: u8, store: BlockStore) -> FoundTransaction
     ensures { result ≡ refused_transaction number store }
 {
     FoundTransaction {
         number,
-        share: Span::Nothing,
+        share: None,
         store,
     }
 }
@@ -98,16 +85,19 @@ fn read_share(
     let found = share_in(&image[at..end], offset);
     let counted = query::count_loads(store, filters::not_loaded(index, i));
     match found {
-        Span::Nothing => FoundTransaction {
+        None => FoundTransaction {
             number: 0,
-            share: Span::Nothing,
+            share: None,
             store: counted,
         },
-        Span::At(p, n) => {
-            let start = at + p;
+        Some(bytes) => {
+            let start = at + bytes.at;
             FoundTransaction {
                 number: 0,
-                share: Span::At(start, n),
+                share: Some(Cursor {
+                    at: start,
+                    left: bytes.left,
+                }),
                 store: counted,
             }
         }
@@ -132,10 +122,10 @@ pub fn get_transaction(
     let reference = locator.block;
     let found = rows::find(index, store.rows, index::key_of(reference));
     match found {
-        Place::At(i) => read_share(k, image, used, store, index, i, locator.offset),
-        Place::Gap(_) => FoundTransaction {
+        Ok(i) => read_share(k, image, used, store, index, i, locator.offset),
+        Err(_) => FoundTransaction {
             number: 0,
-            share: Span::Nothing,
+            share: None,
             store,
         },
     }

@@ -2,6 +2,7 @@
 use native.Mathlib.Omega.{arith}
 use Rattle.cleanup.proofs.Unloading.{clearing_start, clearing_passed, clearing_next, clearing_stopped, clearing_done, all_counted, all_written}
 use Rattle.cleanup.proofs.unload_below_round.Goals as goal
+use Rattle.cleanup.proofs.unload_below_round.Goals.{then-index-i-ne0, else-index-i-ne0}
 
 pub loop-i-init : goal.loop-i-init
 loop-i-init c =
@@ -18,13 +19,13 @@ returns-then-t-index c =
       index_after = all_written a.t inv fits all;
     }
 
-pub loop-i-preserved-then-index-i-eq0 : goal.loop-i-preserved-then-index-i-eq0
-loop-i-preserved-then-index-i-eq0 c =
-    clearing_passed c.args.t c.loop-i.invariant c.requires.0 (omega arith) c.if-index-i-eq0.true
-
 pub loop-i-preserved : goal.loop-i-preserved
 loop-i-preserved c =
-    clearing_next c.args.t c.loop-i.invariant c.requires.0 (omega arith) (omega arith) c.if-index-i-eq0.false
+    let inv = c.loop-i.invariant in
+    elim c.if-index-i-ne0.branch [
+      | then-index-i-ne0 w ↦ rw (w.index-is, w.unloaded-is) (clearing_next c.args.t inv c.requires.0 (omega arith) (omega arith) w.if-index-i-ne0.true)
+      | else-index-i-ne0 w ↦ rw (w.index-is, w.unloaded-is) (clearing_passed c.args.t inv c.requires.0 (omega arith) w.if-index-i-ne0.false)
+    ]
 
 pub returns : goal.returns
 returns c =

@@ -24,18 +24,18 @@ find-requires c =
     let h = call_checked a.k a.used (length a.image.now) a.store a.index.now number c.if-number-ne0.false in
     (h.fits, h.ascends)
 
-pub returns-in-At : goal.returns-in-At
+pub returns-in-Ok : goal.returns-in-Ok
 unfolding indexed
-returns-in-At c =
+returns-in-Ok c =
     let a = c.args in
     let number = c.check_call-number.ensures in
-    let at = at_place (key_words a.reference) (rows_of a.store.rows a.index.now) (sym c.in-At.is ∙ c.find.ensures ∙ ap (λ (k : List ℕ). place_of k (rows_of a.store.rows a.index.now)) c.key_of.ensures) in
+    let at = at_place (key_words a.reference) (rows_of a.store.rows a.index.now) (sym c.in-Ok.is ∙ c.find.ensures ∙ ap (λ (k : List ℕ). place_of k (rows_of a.store.rows a.index.now)) c.key_of.ensures) in
     answer_yes (call_check a.k a.used (length a.image.now) a.store a.index.now) number (has_key (key_words a.reference) (indexed a.store a.index.now)) c.if-number-ne0.false at.0
 
-pub returns-in-Gap : goal.returns-in-Gap
+pub returns-in-Err : goal.returns-in-Err
 unfolding indexed
-returns-in-Gap c =
+returns-in-Err c =
     let a = c.args in
     let number = c.check_call-number.ensures in
-    let gap = gap_place (key_words a.reference) (rows_of a.store.rows a.index.now) (sym c.in-Gap.is ∙ c.find.ensures ∙ ap (λ (k : List ℕ). place_of k (rows_of a.store.rows a.index.now)) c.key_of.ensures) in
+    let gap = gap_place (key_words a.reference) (rows_of a.store.rows a.index.now) (sym c.in-Err.is ∙ c.find.ensures ∙ ap (λ (k : List ℕ). place_of k (rows_of a.store.rows a.index.now)) c.key_of.ensures) in
     answer_no (call_check a.k a.used (length a.image.now) a.store a.index.now) number (has_key (key_words a.reference) (indexed a.store a.index.now)) c.if-number-ne0.false gap.0

@@ -1,22 +1,20 @@
 -- `exists::round_exists` meets its contract: the place of the round's lowest key tells whether a row of the round is there. Assumes nothing.
-use mathlib.Core.Path.{sym, ◌∙◌}
+use mathlib.Core.Path.{◌∙◌}
+use borrow.Author.Tests.{le-ltb}
 use Rattle.exists.proofs.Existing.{there_found, there_end, there_next}
 use Rattle.exists.proofs.round_exists.Goals as goal
 
-pub returns-then-count-i : goal.returns-then-count-i
-returns-then-count-i c =
+pub returns-in-Ok : goal.returns-in-Ok
+returns-in-Ok c =
     let a = c.args in
-    let pre = c.requires in
-    there_end a.round a.index.now a.count pre.0 pre.1 (sym c.in-Gap.is ∙ c.find.ensures) c.if-count-i.true
+    there_found a.round a.index.now a.count c.requires.0 c.requires.1 c.in-Ok.ensures
 
-pub returns-in-At : goal.returns-in-At
-returns-in-At c =
+pub returns-then-i-count : goal.returns-then-i-count
+returns-then-i-count c =
     let a = c.args in
-    let pre = c.requires in
-    there_found a.round a.index.now a.count pre.0 pre.1 (sym c.in-At.is ∙ c.find.ensures)
+    there_next a.round a.index.now a.count c.requires.0 c.requires.1 c.in-Err.ensures c.if-i-count.true
 
-pub returns-else-count-i : goal.returns-else-count-i
-returns-else-count-i c =
+pub returns-else-i-count : goal.returns-else-i-count
+returns-else-i-count c =
     let a = c.args in
-    let pre = c.requires in
-    there_next a.round a.index.now a.count pre.0 pre.1 (sym c.in-Gap.is ∙ c.find.ensures) c.if-count-i.false
+    le-ltb c.in-Err.i a.count c.if-i-count.false ∙ there_end a.round a.index.now a.count c.requires.0 c.requires.1 c.in-Err.ensures c.if-i-count.false

@@ -1,5 +1,7 @@
 -- `insert::insert` meets its contract: the checks are made in their order, and what passes them is logged and indexed. Assumes nothing.
-use mathlib.Core.Path.{◌≡◌}
+use mathlib.Core.Path.{◌≡◌, sym, ap, ◌∙◌}
+use Prim.Native.Nat.{ℕ}
+use Rattle.indexing.specs.Indexing.{refuse, inserted_of}
 use lib.ListN.{length}
 use Rattle.store.specs.Store.{call_check}
 use Rattle.insert.proofs.Decoding.{reference_bad, reference_good}
@@ -20,14 +22,14 @@ returns-then-number-ne0 c =
     (call_refused a.writer (length a.image.now) a.store a.index.now a.tag a.payload.now c.check_call-number.ensures c.if-number-ne0.true)
     c.refuse.ensures
 
-pub returns-then-d-ne0 : goal.returns-then-d-ne0
-returns-then-d-ne0 c =
+pub returns-in-Err : goal.returns-in-Err
+returns-in-Err c =
     let a = c.args in
     refuses a.writer a.store a.tag a.payload.now a.image.now a.index.now
-    (undecoded a.writer (length a.image.now) a.store a.index.now a.tag a.payload.now (passed (goal.at.returns-then-d-ne0 c).Else-number-ne0)
+    (undecoded a.writer (length a.image.now) a.store a.index.now a.tag a.payload.now (passed (goal.at.returns-in-Err c).Else-number-ne0)
     (place_start a.writer a.image.now a.payload.now c.place_entry-placed.ensures c.in-Start.is)
-    (reference_bad a.tag a.payload.now c.reference_in-d.ensures c.if-d-ne0.true))
-    c.refuse-then-d-ne0.ensures
+    (reference_bad a.tag a.payload.now (sym c.in-Err.is ∙ c.reference_in-decoded.ensures)))
+    (c.refuse-in-Err.ensures ∙ ap (λ (n : ℕ). inserted_of a.writer a.store 0 (refuse n)) c.number.ensures)
 
 pub log_and_index-requires : goal.log_and_index-requires
 log_and_index-requires c =
@@ -44,11 +46,11 @@ returns-in-No c =
     (place_no a.writer a.image.now a.payload.now c.place_entry-placed.ensures c.in-No.is))
     c.refuse-in-No.ensures
 
-pub returns-else-d-ne0 : goal.returns-else-d-ne0
-returns-else-d-ne0 c =
+pub returns-in-Ok : goal.returns-in-Ok
+returns-in-Ok c =
     let a = c.args in
     inserts a.writer a.store a.tag a.payload.now a.image.now a.index.now
-    (decoded a.writer (length a.image.now) a.store a.index.now a.tag a.payload.now (passed (goal.at.returns-else-d-ne0 c).Else-number-ne0)
+    (decoded a.writer (length a.image.now) a.store a.index.now a.tag a.payload.now (passed (goal.at.returns-in-Ok c).Else-number-ne0)
     (place_start a.writer a.image.now a.payload.now c.place_entry-placed.ensures c.in-Start.is)
-    (reference_good a.tag a.payload.now c.reference_in-d.ensures c.if-d-ne0.false))
+    (reference_good a.tag a.payload.now (sym c.in-Ok.is ∙ c.reference_in-decoded.ensures)))
     c.log_and_index.ensures

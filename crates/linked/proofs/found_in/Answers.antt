@@ -3,10 +3,10 @@ use mathlib.Core.Path.{sym}
 use Rattle.laws.specs.Pick.{pick}
 use Rattle.linked.proofs.found_in.Goals as goal
 
-pub returns-then-not-found : goal.returns-then-not-found
+pub returns-then-found : goal.returns-then-found
 unfolding pick
-returns-then-not-found c = sym (rw c.if-not-found.true)
+returns-then-found c = sym (rw c.if-found.true)
 
-pub returns : goal.returns
+pub returns-else-found : goal.returns-else-found
 unfolding pick
-returns c = sym (rw c.if-not-found.false)
+returns-else-found c = rw c.if-found.false

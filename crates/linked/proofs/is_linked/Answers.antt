@@ -1,12 +1,17 @@
 -- `linked::is_linked` meets its contract. Assumes nothing.
 use mathlib.Core.Path.{sym, ◌∙◌}
 use Rattle.laws.specs.Pick.{pick}
+use Rattle.includes.proofs.Comparing.{compared}
 use Rattle.linked.proofs.is_linked.Goals as goal
 
-pub returns-then-same_reference : goal.returns-then-same_reference
+pub returns-then-eq : goal.returns-then-eq
 unfolding pick
-returns-then-same_reference c = sym (rw (sym c.same_reference.ensures ∙ c.if-same_reference.true))
+returns-then-eq c =
+    let a = c.args in
+    rw (sym (c.eq.ensures ∙ compared a.later a.earlier) ∙ c.if-eq.true) c.if-eq.true
 
-pub returns : goal.returns
+pub returns-else-eq : goal.returns-else-eq
 unfolding pick
-returns c = sym (rw (sym c.same_reference.ensures ∙ c.if-same_reference.false))
+returns-else-eq c =
+    let a = c.args in
+    sym (rw (sym (c.eq.ensures ∙ compared a.later a.earlier) ∙ c.if-eq.false))

@@ -13,6 +13,6 @@ pub returns : goal.returns
 returns c =
     let a = c.args in
     query_collected (call_of a.k a.image.now a.used a.store a.index.now)
-    (chosen a.every a.author a.limit (between a.from a.to a.index.now))
+    (chosen a.author a.limit (between a.from a.to a.index.now))
     (c.collect-c.auto.out ∙ c.clear.auto.t)
     c.collect-c.ensures.value c.collect-c.ensures.holds_rows c.finish.ensures

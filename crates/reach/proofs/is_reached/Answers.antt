@@ -1,22 +1,23 @@
 -- `reach::is_reached` meets its contract. Assumes nothing.
-use mathlib.Core.Path.{◌∙◌}
-use Rattle.filters.specs.Segments.{between}
+use mathlib.Core.Path.{◌∙◌, subst}
+use Rattle.reach.specs.Reaching.{Held}
 use Rattle.reach.proofs.Asking.{by_later, by_rows}
 use Rattle.reach.proofs.is_reached.Goals as goal
 
 pub includes-requires : goal.includes-requires
 includes-requires c = c.requires.parses
 
-pub returns-then-parents : goal.returns-then-parents
-returns-then-parents c =
+pub returns-in-None : goal.returns-in-None
+returns-in-None c =
     let a = c.args in
-    c.includes.ensures ∙ by_later a.image.now a.later.now a.parents (between a.from a.parents.end a.work.now) a.reference c.if-parents.true
+    rw c.in-None.is (c.includes.ensures ∙ by_later a.image.now a.later.now a.from a.work.now a.reference)
 
 pub any_includes-requires : goal.any_includes-requires
 any_includes-requires c =
-    (c.requires.lent, c.requires.placed)
-
-pub returns : goal.returns
-returns c =
     let a = c.args in
-    c.any_includes.ensures ∙ by_rows a.image.now a.later.now a.parents (between a.from a.parents.end a.work.now) a.reference c.if-parents.false
+    subst (λ p. Held a.image.now p a.from a.work.now) c.in-Some.is c.requires.held
+
+pub returns-in-Some : goal.returns-in-Some
+returns-in-Some c =
+    let a = c.args in
+    rw c.in-Some.is (c.any_includes.ensures ∙ by_rows a.image.now a.later.now a.from a.work.now a.reference c.in-Some.end)

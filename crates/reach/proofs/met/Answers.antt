@@ -1,20 +1,19 @@
 -- `reach::met` meets its contract. Assumes nothing.
-use mathlib.Core.Path.{sym, ◌∙◌}
+use mathlib.Core.Path.{◌∙◌}
 use Rattle.laws.specs.Pick.{pick}
+use Rattle.includes.proofs.Comparing.{compared}
 use Rattle.reach.proofs.met.Goals as goal
 
 pub returns-then-found : goal.returns-then-found
 unfolding pick
-returns-then-found c = sym (rw c.if-found.true)
+returns-then-found c = rw c.if-found.true
 
-pub returns-then-not-reached : goal.returns-then-not-reached
+pub returns-then-reached : goal.returns-then-reached
 unfolding pick
-returns-then-not-reached c =
+returns-then-reached c =
     let a = c.args in
-    sym (rw (c.if-found.false, c.if-not-reached.true))
+    rw (c.if-found.false, c.if-reached.true) (c.eq.ensures ∙ compared a.reference a.earlier)
 
-pub returns : goal.returns
+pub returns-else-reached : goal.returns-else-reached
 unfolding pick
-returns c =
-    let a = c.args in
-    c.same_reference.ensures ∙ sym (rw (c.if-found.false, c.if-not-reached.false))
+returns-else-reached c = rw (c.if-found.false, c.if-reached.false)

@@ -1,52 +1,29 @@
--- `store::check_rows` meets its contract: order and authorities of the rows from i on decide. Assumes nothing.
-use mathlib.Core.Path.{sym, ◌∙◌}
+-- `store::check_rows` meets its contract: the rows from the one before row i on decide. Assumes nothing.
+use mathlib.Core.Path.{◌≡◌, sym, ◌∙◌}
 use native.Mathlib.Omega.{arith}
-use Rattle.rows.specs.Rows.{rows_of, ascendingb}
-use Rattle.rows.proofs.Testing.{tested_start, tested_next, tested_equal, tested_above, tested_done}
-use Rattle.store.specs.Store.{authorities_below}
-use Rattle.store.proofs.Authorities.{authorities_start, authorities_next, authorities_stop, authorities_last, authority_decides, order_decides, authorities_decide}
+use Rattle.store.proofs.Authorities.{passed_start, passed_stop, passed_next, passed_no_more, passed_without_rows, passed_all}
 use Rattle.store.proofs.check_rows.Goals as goal
 
 pub loop-i-init : goal.loop-i-init
-loop-i-init c =
-    let a = c.args in (
-      tested_start a.index.now a.count,
-      authorities_start a.size a.index.now a.count,
-    )
+loop-i-init c = passed_start c.args.size c.args.index.now c.args.count
 
 pub returns-then-size-index : goal.returns-then-size-index
-returns-then-size-index c =
-    let a = c.args in
-    let l = c.loop-i in
-    authority_decides (ascendingb (rows_of a.count a.index.now))
-    (l.invariant.1 ∙ authorities_stop a.size a.index.now l.i a.count (omega (arith, c.loop-i-test.true)) c.if-size-index.true)
+returns-then-size-index c = passed_stop c.loop-i.invariant (omega (arith, c.loop-i-test.true)) c.if-size-index.true
+
+pub returns-then-is_ge : goal.returns-then-is_ge
+returns-then-is_ge c =
+    passed_no_more c.loop-i.invariant (omega arith) (omega (arith, c.loop-i-test.true)) c.key_at.ensures c.compare_key.ensures
+    (sym c.is_ge.ensures ∙ c.if-is_ge.true)
 
 pub loop-i-preserved : goal.loop-i-preserved
 loop-i-preserved c =
-    let a = c.args in
-    let l = c.loop-i in (
-      tested_next l.invariant.0 c.loop-i-test.true c.key_at.ensures c.compare_key.ensures c.in-Below.is,
-      l.invariant.1 ∙ authorities_next a.size a.index.now l.i a.count (omega (arith, c.loop-i-test.true)) c.if-size-index.false,
-    )
+    passed_next c.loop-i.invariant (omega arith) (omega (arith, c.loop-i-test.true)) c.key_at.ensures c.compare_key.ensures c.if-size-index.false
+    (sym c.is_ge.ensures ∙ c.if-is_ge.false) (omega arith)
 
-pub returns-in-Equal : goal.returns-in-Equal
-returns-in-Equal c =
-    let a = c.args in
-    order_decides (ascendingb (rows_of a.count a.index.now)) (authorities_below a.size (rows_of a.count a.index.now))
-    (tested_equal c.loop-i.invariant.0 c.loop-i-test.true c.key_at.ensures c.compare_key.ensures c.in-Equal.is)
+pub returns-then-count-eq0 : goal.returns-then-count-eq0
+returns-then-count-eq0 c = passed_without_rows c.loop-i.invariant c.if-count-eq0.true
 
-pub returns-in-Above : goal.returns-in-Above
-returns-in-Above c =
-    let a = c.args in
-    order_decides (ascendingb (rows_of a.count a.index.now)) (authorities_below a.size (rows_of a.count a.index.now))
-    (tested_above c.loop-i.invariant.0 c.loop-i-test.true c.key_at.ensures c.compare_key.ensures c.in-Above.is)
-
-pub returns : goal.returns
-returns c =
-    let a = c.args in
-    let l = c.loop-i in
-    let last = l.invariant.1 ∙ authorities_last a.size a.index.now l.i a.count (omega (arith, c.loop-i-test.false)) in
-    c.check_last.ensures
-    ∙ sym last
-    ∙ authorities_decide (ascendingb (rows_of a.count a.index.now)) (authorities_below a.size (rows_of a.count a.index.now))
-    (tested_done l.invariant.0 c.loop-i-test.false)
+pub returns-else-count-eq0 : goal.returns-else-count-eq0
+returns-else-count-eq0 c =
+    let ne : c.args.count ≡ 0 → ⊥ = c.if-count-eq0.false in
+    passed_all c.loop-i.invariant (omega arith) (omega arith)

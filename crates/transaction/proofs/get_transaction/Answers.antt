@@ -29,21 +29,21 @@ pub read_share-requires : goal.read_share-requires
 read_share-requires c =
     let a = c.args in
     let h : Checked a.store a.index.now = checked_call a.k a.used (length a.image.now) a.store a.index.now c.check_call-number.ensures c.if-number-ne0.false in
-    row_fits a.index.now a.store.rows h.fits h.ascends a.locator.block (sym c.in-At.is ∙ c.find-found.ensures ∙ ap (λ (k : List ℕ). place_of k (rows_of a.store.rows a.index.now)) c.key_of.ensures)
+    row_fits a.index.now a.store.rows h.fits h.ascends a.locator.block (sym c.in-Ok.is ∙ c.find-found.ensures ∙ ap (λ (k : List ℕ). place_of k (rows_of a.store.rows a.index.now)) c.key_of.ensures)
 
-pub returns-in-At : goal.returns-in-At
+pub returns-in-Ok : goal.returns-in-Ok
 unfolding indexed
-returns-in-At c =
+returns-in-Ok c =
     let a = c.args in
     let h : Checked a.store a.index.now = checked_call a.k a.used (length a.image.now) a.store a.index.now c.check_call-number.ensures c.if-number-ne0.false in
     c.read_share.ensures
     ∙ call_passed a.k a.image.now a.used a.store a.locator.offset (call_check a.k a.used (length a.image.now) a.store a.index.now) (by_reference a.locator.block (indexed a.store a.index.now)) (passed_call a.k a.used (length a.image.now) a.store a.index.now c.check_call-number.ensures c.if-number-ne0.false)
-    (row_reference a.index.now a.store.rows h.fits h.ascends a.locator.block (sym c.in-At.is ∙ c.find-found.ensures ∙ ap (λ (k : List ℕ). place_of k (rows_of a.store.rows a.index.now)) c.key_of.ensures))
+    (row_reference a.index.now a.store.rows h.fits h.ascends a.locator.block (sym c.in-Ok.is ∙ c.find-found.ensures ∙ ap (λ (k : List ℕ). place_of k (rows_of a.store.rows a.index.now)) c.key_of.ensures))
 
-pub returns-in-Gap : goal.returns-in-Gap
+pub returns-in-Err : goal.returns-in-Err
 unfolding indexed transaction_of
-returns-in-Gap c =
+returns-in-Err c =
     let a = c.args in
     let h : Checked a.store a.index.now = checked_call a.k a.used (length a.image.now) a.store a.index.now c.check_call-number.ensures c.if-number-ne0.false in
     call_passed a.k a.image.now a.used a.store a.locator.offset (call_check a.k a.used (length a.image.now) a.store a.index.now) (by_reference a.locator.block (indexed a.store a.index.now)) (passed_call a.k a.used (length a.image.now) a.store a.index.now c.check_call-number.ensures c.if-number-ne0.false)
-    (sym (no_reference_lem a.index.now a.store.rows h.fits h.ascends a.locator.block (sym c.in-Gap.is ∙ c.find-found.ensures ∙ ap (λ (k : List ℕ). place_of k (rows_of a.store.rows a.index.now)) c.key_of.ensures)))
+    (sym (no_reference_lem a.index.now a.store.rows h.fits h.ascends a.locator.block (sym c.in-Err.is ∙ c.find-found.ensures ∙ ap (λ (k : List ℕ). place_of k (rows_of a.store.rows a.index.now)) c.key_of.ensures)))

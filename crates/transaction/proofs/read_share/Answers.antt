@@ -1,5 +1,5 @@
 -- `transaction::read_share` meets its contract: the block that was read lies in the image, and the Share in the block. Assumes nothing.
-use mathlib.Core.Path.{ap, ◌∙◌}
+use mathlib.Core.Path.{sym, ap, ◌∙◌}
 use mathlib.Core.List.{List}
 use Prim.Native.Nat.{ℕ, ◌+◌, ◌*◌}
 use native.Mathlib.Omega.{arith}
@@ -34,25 +34,25 @@ overflow_add-start c =
     row_within a.k a.image.now a.used a.store a.offset a.index.now a.i c.read_block-b.ensures
     c.if-b-ne0.false
     (c.share_in-found.ensures ∙ ap (λ (l : List ℕ). share_in l a.offset) (part_is a.image.now b.at b.len))
-    c.in-At.is in
+    c.in-Some.is in
     omega (arith, c.well_formed.1.0, within)
 
-pub returns-in-Nothing : goal.returns-in-Nothing
-returns-in-Nothing c =
+pub returns-in-None : goal.returns-in-None
+returns-in-None c =
     let a = c.args in
     let b = c.read_block-b.result in
     row_answer a.k a.image.now a.used a.store a.offset a.index.now a.i c.read_block-b.ensures
     c.if-b-ne0.false
     (c.share_in-found.ensures ∙ ap (λ (l : List ℕ). share_in l a.offset) (part_is a.image.now b.at b.len))
     c.not_loaded.ensures c.count_loads-counted.ensures
-    (placed_none b.at c.in-Nothing.is)
+    (placed_none b.at (sym c.in-None.is))
 
-pub returns-in-At : goal.returns-in-At
-returns-in-At c =
+pub returns-in-Some : goal.returns-in-Some
+returns-in-Some c =
     let a = c.args in
     let b = c.read_block-b.result in
     row_answer a.k a.image.now a.used a.store a.offset a.index.now a.i c.read_block-b.ensures
     c.if-b-ne0.false
     (c.share_in-found.ensures ∙ ap (λ (l : List ℕ). share_in l a.offset) (part_is a.image.now b.at b.len))
     c.not_loaded.ensures c.count_loads-counted.ensures
-    (placed_there b.at c.in-At.is)
+    (placed_there b.at (sym c.in-Some.is))

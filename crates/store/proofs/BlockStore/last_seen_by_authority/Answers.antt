@@ -1,20 +1,11 @@
--- `store::BlockStore::last_seen_by_authority` meets its contract: the array has 128 rounds. Assumes nothing.
-use mathlib.Core.Path.{◌≡◌, refl, sym}
-use mathlib.Core.List.{List}
-use Prim.Native.Nat.{ℕ}
+-- `store::BlockStore::last_seen_by_authority` meets its contract: 0 past the array's end. Assumes nothing.
+use mathlib.Core.Path.{ap, ◌∙◌}
 use native.Mathlib.Omega.{arith}
-use lib.ListN.{length, get_or-eq_default}
-use borrow.Author.Rules.{rules}
+use Rattle.std.specs.Option.{unwrap_or}
 use Rattle.store.specs.Store.{last_seen_of}
 use Rattle.store.proofs.BlockStore.last_seen_by_authority.Goals as goal
 
-pub returns-then-authority-ge128 : goal.returns-then-authority-ge128
-unfolding last_seen_of
-returns-then-authority-ge128 c =
-    let rounds : List ℕ = c.args.self.summary.last_seen_by_authority in
-    let long : length rounds ≡ 128 = search rules in
-    sym (get_or-eq_default rounds 0 (omega arith))
-
 pub returns : goal.returns
 unfolding last_seen_of
-returns c = refl
+returns c =
+    c.unwrap_or.ensures ∙ ap (λ o. unwrap_or o 0) c.copied.ensures ∙ c.get.ensures.lookup.4 (omega arith) 0

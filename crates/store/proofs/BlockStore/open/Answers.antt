@@ -4,4 +4,4 @@ use Rattle.store.proofs.BlockStore.open.Goals as goal
 
 pub returns : goal.returns
 unfolding opened_of opened
-returns c = rw c.open_number-number.ensures
+returns c = rw c.open_number.ensures

@@ -1,17 +1,12 @@
 -- Words fed to the register one after the other are their bytes fed at once. Assumes nothing.
 use Prim.Native.Nat.{ℕ, suc, ◌+◌, ◌≤◌, ◌<◌}
-use mathlib.Core.Path.{◌≡◌, refl, sym, ap, ◌∙◌}
-use mathlib.Core.Bool.{Bool, true, false}
+use mathlib.Core.Path.{◌≡◌, sym, ap, ◌∙◌}
 use mathlib.Core.List.{List, ◌++◌}
-use mir.Val.{bool_byte}
 use native.Mathlib.Numerals.{add-one}
 use lib.ListN.{length, drop, get_or, drop_of_length-le}
 use lib.Seq.{drop-cons}
-use Rattle.laws.specs.Bytes.{le, written}
+use Rattle.laws.specs.Bytes.{le}
 use Rattle.laws.specs.Parse.{joined}
-use Rattle.laws.specs.Pick.{pick}
-use Rattle.laws.proofs.LittleEndian.{length_le}
-use Rattle.laws.proofs.Written.{written_whole}
 use Rattle.checksum.specs.Crc32.{feed}
 use Rattle.checksum.proofs.Register.{feed_append}
 
@@ -32,10 +27,6 @@ pub no_word : (c : ℕ) (t : List ℕ) (i : ℕ) → length t ≤ i → feed c (
 unfolding joined feed
 no_word c t i h = ap (λ (l : List ℕ). feed c (joined (le 8) l)) (drop_of_length-le t h)
 
--- a number stored over 8 bytes is those bytes
-pub stored : (s : List ℕ) (x : ℕ) → length s ≡ 8 → written s 0 (le 8 x) ≡ le 8 x
-stored s x h = written_whole s (le 8 x) (length_le 8 x ∙ sym h)
-
 -- four parts fed one after the other
 pub fed_four : (c : ℕ) {one two three four : ℕ} (a b d e : List ℕ)
     → one ≡ feed c a → two ≡ feed one b → three ≡ feed two d → four ≡ feed three e → four ≡ feed c (a ++ b ++ d ++ e)
@@ -44,9 +35,3 @@ fed_four c a b d e first second third fourth =
     ∙ ap (λ (n : ℕ). feed n e)
     (third ∙ ap (λ (n : ℕ). feed n d) (second ∙ ap (λ (n : ℕ). feed n b) first ∙ sym (feed_append c a b)) ∙ sym (feed_append c (a ++ b) d))
     ∙ sym (feed_append c (a ++ b ++ d) e)
-
--- a bool as a number
-pub bool_word : (t : Bool) → bool_byte t ≡ pick t 1 0
-unfolding pick
-bool_word true = refl
-bool_word false = refl

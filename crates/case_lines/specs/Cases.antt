@@ -1,5 +1,5 @@
 -- Numbers and parts of a case's bytes, and a reference as bytes. Assumes nothing.
-use Rattle.std.specs.Prelude.{ℕ, ◌+◌, ◌-◌, Bool, List, [], ◌++◌, leb, ltb, length, take, drop}
+use Rattle.std.specs.Prelude.{ℕ, ◌+◌, ◌-◌, Option, Some, None, List, [], ◌++◌, leb, ltb, length, take, drop, replicate}
 use Rattle.laws.specs.Bytes.{le}
 use Rattle.laws.specs.Parse.{number, answer}
 use Rattle.laws.specs.Pick.{pick}
@@ -25,6 +25,7 @@ behind_of s p = sum_of (sum_of p 8) (number_at s p)
 unfoldable pub bytes_of : List ℕ → ℕ → List ℕ
 bytes_of s p = part_of s (sum_of p 8) (behind_of s p)
 
--- 1 or 0 for whether a reference is there, authority and round, each in 8 bytes, and the digest
-unfoldable pub found_reference_bytes : Bool → BlockReference → List ℕ
-found_reference_bytes there r = le 8 (pick there 1 0) ++ le 8 r.authority ++ le 8 r.round ++ r.digest.0
+-- whether a reference is there, authority and round, each in 8 bytes, and the digest; zeros where there is none
+unfoldable pub found_reference_bytes : Option BlockReference → List ℕ
+found_reference_bytes None = replicate 56 0
+found_reference_bytes (Some r) = le 8 1 ++ le 8 r.authority ++ le 8 r.round ++ r.digest.0

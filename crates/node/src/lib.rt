@@ -10,13 +10,12 @@ ghost use Rattle.std.proofs.Math.Option.{some};
 ghost use Rattle.laws.specs.Bytes.{zeros};
 ghost use Rattle.laws.specs.Parse.{many};
 ghost use Rattle.checksum.specs.Crc32.{crc32};
-ghost use Rattle.bincode.specs.Answers.{part_answer};
+ghost use Rattle.bincode.specs.Answers.{decoded_as, decoded, list_answer};
 ghost use Rattle.types.specs.Records.{reference as parsed_reference, reference_bytes, statement, statement_bytes, share, vote_range, block as parsed_block, block_bytes, payload, payload_bytes};
-ghost use Rattle.types.specs.Answers.{reference_answer};
-ghost use Rattle.statements.specs.Answers.{statement_answer};
-ghost use Rattle.blocks.specs.Answers.{block_answer};
+ghost use Rattle.statements.specs.Answers.{statement_of};
+ghost use Rattle.blocks.specs.Answers.{statement_block};
 ghost use Rattle.commits.specs.Records.{own_block, commit_data, commit};
-ghost use Rattle.commits.specs.Answers.{own_block_answer, commit_data_answer, commit_answer};
+ghost use Rattle.commits.specs.Answers.{own_block_of, commit_of, commits_of};
 ghost use Rattle.encode_blocks.specs.Whole.{whole, laid_out};
 ghost use Rattle.encode_blocks.specs.Blocks.{block_from};
 ghost use Rattle.encode_commits.specs.Commits.{own_block_with, commit_data_with, commit_with};
@@ -37,6 +36,10 @@ ghost use Rattle.node_given.specs.Given.{locator_of, range_of, vote_given, vote_
 ghost use Rattle.node_answers.specs.Answers.{Tells, Cleans, Shows, Links};
 ghost use Rattle.node.specs.Calls.{GivesWalk, GivesRecovery, GivesPage, GivesAppend, GivesInsert, GivesLookup};
 
+use bincode::Decode;
+use blocks::StatementBlock;
+use commits::{Commit, CommitData, OwnBlockData};
+use statements::BaseStatement;
 use types::TransactionLocator;
 use wal::{WalPosition, WalWriter};
 
@@ -518,11 +521,11 @@ pub extern "C" fn kadzhomir_linked(
 // Decodes the block at a place.
 #[unsafe(no_mangle)]
 pub extern "C" fn kadzhomir_decode_block(bytes: &[u8], at: usize, answer: &mut [u64; 15]) -> u8
-    ensures { DecodesBlock (block_answer at (parsed_block bytes.now at))
-        result answer.new }
+    ensures { DecodesBlock (decoded_as (λ b e. statement_block at b)
+        (parsed_block bytes.now at)) result answer.new }
 {
-    let d = blocks::decode_block(bytes, at);
-    node_log::put_block(answer, d)
+    let decoded = StatementBlock::decode(bytes, at);
+    node_log::put_block(answer, decoded)
 }
 
 // The i-th of the references that stand at a place.
@@ -533,49 +536,49 @@ pub extern "C" fn kadzhomir_include_at(
     i: usize,
     answer: &mut [u64; 8],
 ) -> u8
-    ensures { DecodesReference (reference_answer (parsed_reference bytes.now (place + 56 * i)))
+    ensures { DecodesReference (decoded (parsed_reference bytes.now (place + 56 * i)))
         result answer.new }
 {
-    let d = types::include_at(bytes, place, i);
-    node_log::put_decoded(answer, d)
+    let decoded = types::include_at(bytes, place, i);
+    node_log::put_decoded(answer, decoded)
 }
 
 // Decodes the own block at a place: the words of its block, and the next entry.
 #[unsafe(no_mangle)]
 pub extern "C" fn kadzhomir_decode_own_block(bytes: &[u8], at: usize, answer: &mut [u64; 16]) -> u8
-    ensures { DecodesOwnBlock (own_block_answer at (own_block bytes.now at))
-        result answer.new }
+    ensures { DecodesOwnBlock (decoded_as (λ o e. own_block_of at o)
+        (own_block bytes.now at)) result answer.new }
 {
-    let d = commits::decode_own_block(bytes, at);
-    node_records::put_own_block(answer, d)
+    let decoded = OwnBlockData::decode(bytes, at);
+    node_records::put_own_block(answer, decoded)
 }
 
 // Decodes the statement at a place.
 #[unsafe(no_mangle)]
 pub extern "C" fn kadzhomir_decode_statement(bytes: &[u8], at: usize, answer: &mut [u64; 28]) -> u8
-    ensures { DecodesStatement (statement_answer (statement bytes.now at))
-        result answer.new }
+    ensures { DecodesStatement (decoded_as (λ v e. statement_of v e)
+        (statement bytes.now at)) result answer.new }
 {
-    let d = statements::decode_statement(bytes, at);
-    node_records::put_statement(answer, d)
+    let decoded = BaseStatement::decode(bytes, at);
+    node_records::put_statement(answer, decoded)
 }
 
 // Decodes the payload at a place: statements behind their number.
 #[unsafe(no_mangle)]
 pub extern "C" fn kadzhomir_decode_payload(bytes: &[u8], at: usize, answer: &mut [u64; 4]) -> u8
-    ensures { DecodesPayload (part_answer at (payload bytes.now at)) result answer.new }
+    ensures { DecodesPayload (list_answer at (payload bytes.now at)) result answer.new }
 {
-    let d = commits::decode_payload(bytes, at);
-    node_records::put_payload(answer, d)
+    let decoded = bincode::decode_list::<BaseStatement>(bytes, at);
+    node_records::put_payload(answer, decoded)
 }
 
 // Decodes the commit at a place: the elements of its list behind their number, and the committed state.
 #[unsafe(no_mangle)]
 pub extern "C" fn kadzhomir_decode_commit(bytes: &[u8], at: usize, answer: &mut [u64; 6]) -> u8
-    ensures { DecodesCommit (commit_answer at (commit bytes.now at)) result answer.new }
+    ensures { DecodesCommit (decoded_as (commits_of at) (commit bytes.now at)) result answer.new }
 {
-    let d = commits::decode_commit(bytes, at);
-    node_records::put_commit(answer, d)
+    let decoded = Commit::decode(bytes, at);
+    node_records::put_commit(answer, decoded)
 }
 
 // Decodes an element of a commit's list at a place: a leader and its sub-dag.
@@ -585,11 +588,11 @@ pub extern "C" fn kadzhomir_decode_commit_data(
     at: usize,
     answer: &mut [u64; 10],
 ) -> u8
-    ensures { DecodesCommitData (commit_data_answer at (commit_data bytes.now at))
-        result answer.new }
+    ensures { DecodesCommitData (decoded_as (λ c e. commit_of at c)
+        (commit_data bytes.now at)) result answer.new }
 {
-    let d = commits::decode_commit_data(bytes, at);
-    node_records::put_commit_data(answer, d)
+    let decoded = CommitData::decode(bytes, at);
+    node_records::put_commit_data(answer, decoded)
 }
 
 // Encodes a reference at a place of `out`, as each encoder below does: what does not fit, or is no record, leaves
@@ -606,7 +609,7 @@ pub extern "C" fn kadzhomir_encode_reference(
         result answer.new out.new }
 {
     let x = node_store::reference_at(reference, 0);
-    let encoded = encode::encode_reference(out, at, x);
+    let encoded = encode::encode_record(out, at, x);
     node_given::put_encoded(answer, encoded)
 }
 

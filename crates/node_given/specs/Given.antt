@@ -1,12 +1,12 @@
 -- The records that a caller gives an encoder as words, and the words of an encoder's answer.
-use Rattle.std.specs.Prelude.{◌≡◌, List, [], ◌∷◌, ℕ, eqb, get_or}
+use Rattle.std.specs.Prelude.{◌≡◌, List, [], ◌∷◌, ℕ, Result, Ok, Err, eqb, get_or}
 use Rattle.std.proofs.Math.Option.{Option, none, some}
 use Rattle.laws.specs.Pick.{pick}
 use Rattle.types.specs.declared.TransactionLocator.{TransactionLocator}
 use Rattle.types.specs.declared.TransactionLocatorRange.{TransactionLocatorRange}
 use Rattle.types.specs.Records.{VoteValue, accept, reject, vote_on, statement_bytes}
-use Rattle.encode.specs.declared.Encoded.{Encoded}
-use Rattle.encode.specs.declared.Encoded.TheVariants.{End, NoRoom, Malformed}
+use Rattle.encode.specs.declared.EncodeError.{EncodeError}
+use Rattle.encode.specs.declared.EncodeError.TheVariants.{NoRoom, Malformed}
 use Rattle.encode.specs.Encoding.{answer_at, encoded_at}
 use Rattle.encode_blocks.specs.declared.BlockFields.{BlockFields}
 use Rattle.node_store.specs.Stores.{flagged, reference_of}
@@ -47,10 +47,10 @@ block_fields_of w signature =
 -- ---- What an encoder answers
 
 -- 1 and the place behind the record; 0 where what was given is none; 2 where it does not fit
-unfoldable pub encoded_words : Encoded → List ℕ
-encoded_words (End end) = 1 ∷ end ∷ []
-encoded_words Malformed = 0 ∷ 0 ∷ []
-encoded_words NoRoom = 2 ∷ 0 ∷ []
+unfoldable pub encoded_words : Result ℕ EncodeError → List ℕ
+encoded_words (Ok end) = 1 ∷ end ∷ []
+encoded_words (Err Malformed) = 0 ∷ 0 ∷ []
+encoded_words (Err NoRoom) = 2 ∷ 0 ∷ []
 
 -- An encoder is given the bytes to write at a place, or none where what its caller gave is no record. It answers the number n, which is
 -- always 0, and the words a, and leaves `after` in the buffer `out` that it is lent: `Encodes` of the crate encode, with the answer as words.

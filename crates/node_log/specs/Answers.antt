@@ -1,6 +1,6 @@
 -- The words of the answer of each call on a log, and of each decoded record, in the order in which they are put, and its number. What is
 -- missing is zeros.
-use Rattle.std.specs.Prelude.{◌≡◌, List, [], ◌∷◌, ◌++◌, ℕ, suc}
+use Rattle.std.specs.Prelude.{◌≡◌, Option, Some, None, List, [], ◌∷◌, ◌++◌, ℕ, suc, replicate}
 use Rattle.wal_reader.specs.declared.WalEntry.{WalEntry}
 use Rattle.wal_reader.specs.declared.Found.{Found}
 use Rattle.wal_reader.specs.declared.Found.TheVariants.{Entry as Found-as-Entry, Refused as Found-as-Refused}
@@ -8,8 +8,8 @@ use Rattle.wal.specs.declared.WalkStep.{WalkStep}
 use Rattle.wal.specs.declared.WalkStep.TheVariants.{Entry as Step-as-Entry, Stopped as Step-as-Stopped, Refused as Step-as-Refused}
 use Rattle.wal_writer.specs.declared.Appended.{Appended}
 use Rattle.wal_writer.specs.declared.Appended.TheVariants.{At, Refused as Appended-as-Refused}
-use Rattle.types.specs.declared.DecodedReference.{DecodedReference}
-use Rattle.blocks.specs.declared.DecodedBlock.{DecodedBlock}
+use Rattle.types.specs.declared.BlockReference.{BlockReference}
+use Rattle.blocks.specs.declared.StatementBlock.{StatementBlock}
 use Rattle.index.specs.Keys.{key_words}
 use Rattle.node_words.specs.Words.{flag, stop_word}
 
@@ -68,19 +68,21 @@ Steps x n a = Gives (step_number x) (step_words x) n a
 -- ---- Records
 
 -- of a block: whether it decodes, its reference, its includes and its statements, each by place and number, the creation time's low and
--- high half, the epoch marker, and the end. 15 words, all zero where it does not decode (proofs/Records.antt, `no_block_words`).
-unfoldable pub block_words : DecodedBlock → List ℕ
-block_words d =
-    (flag d.ok ∷ key_words d.block.reference)
-    ++ (d.block.includes.at ∷ d.block.includes.left ∷ d.block.statements.at ∷ d.block.statements.left
-    ∷ d.block.meta_creation_time_ns.low ∷ d.block.meta_creation_time_ns.high ∷ flag d.block.epoch_marker ∷ d.end ∷ [])
+-- high half, the epoch marker, and the end. 15 words, all zero where it does not decode.
+unfoldable pub block_words : Option (StatementBlock × ℕ) → List ℕ
+block_words None = replicate 15 0
+block_words (Some (b, end)) =
+    (1 ∷ key_words b.reference)
+    ++ (b.includes.at ∷ b.includes.left ∷ b.statements.at ∷ b.statements.left
+    ∷ b.meta_creation_time_ns.low ∷ b.meta_creation_time_ns.high ∷ flag b.epoch_marker ∷ end ∷ [])
 
-abbrev pub DecodesBlock : DecodedBlock → ℕ → List ℕ → Type 0
+abbrev pub DecodesBlock : Option (StatementBlock × ℕ) → ℕ → List ℕ → Type 0
 DecodesBlock d n a = Gives 0 (block_words d) n a
 
--- of a reference: whether it decodes, the reference, and the end. 8 words, all zero where it does not decode (`no_reference_words`).
-unfoldable pub reference_words : DecodedReference → List ℕ
-reference_words d = (flag d.ok ∷ key_words d.reference) ++ (d.end ∷ [])
+-- of a reference: whether it decodes, the reference, and the end. 8 words, all zero where it does not decode.
+unfoldable pub reference_words : Option (BlockReference × ℕ) → List ℕ
+reference_words None = replicate 8 0
+reference_words (Some (r, end)) = (1 ∷ key_words r) ++ (end ∷ [])
 
-abbrev pub DecodesReference : DecodedReference → ℕ → List ℕ → Type 0
+abbrev pub DecodesReference : Option (BlockReference × ℕ) → ℕ → List ℕ → Type 0
 DecodesReference d n a = Gives 0 (reference_words d) n a

@@ -1,15 +1,17 @@
 // What each call of the crate node on a log answers, and each that decodes a record, put into the words that its
 // caller lends: the answer of a call of another crate, as words and as a number.
+// Kept: a number as the answer of each call, as the interface for C has it.
 #![tactic(auto)]
 
 ghost use Rattle.std.specs.Prelude.{◌≡◌};
-ghost use Rattle.node_log.specs.Answers.{append_number, append_words, Reads, Steps, DecodesBlock, DecodesReference};
+ghost use Rattle.node_log.specs.Answers.{append_number, append_words, entry_words, Reads, Steps, DecodesBlock, DecodesReference};
 
-use blocks::DecodedBlock;
+use blocks::StatementBlock;
 use node_words::stop_word;
-use types::DecodedReference;
-use wal::{Appended, Found, WalkStep};
+use types::BlockReference;
+use wal::{Appended, Found, WalEntry, WalkStep};
 
+#[tactic(auto, unfolding(crate::specs::Answers::append_number))]
 pub fn append_number(found: Appended) -> u8
     ensures { result ≡ append_number found }
 {
@@ -19,99 +21,104 @@ pub fn append_number(found: Appended) -> u8
     }
 }
 
+#[tactic(auto, unfolding(crate::specs::Answers::append_words))]
 pub fn append_words(used: u64, found: Appended) -> [u64; 3]
     ensures { result ≡ append_words used found }
 {
     match found {
         Appended::At(position, writer) => [0, position.0, writer.used],
-        Appended::Refused(number) => [number as u64, 0, used],
+        Appended::Refused(number) => [u64::from(number), 0, used],
     }
 }
 
+// An entry's position, tag, length and checksum.
+#[tactic(auto, unfolding(crate::specs::Answers::entry_words))]
+fn entry_words(e: WalEntry) -> [u64; 4]
+    ensures { result ≡ entry_words e }
+{
+    [e.position.0, u64::from(e.tag), e.len, u64::from(e.checksum)]
+}
+
 // Of a read.
+#[tactic(auto, unfolding(crate::specs::Answers::read_number, crate::specs::Answers::read_words, crate::specs::Answers::entry_words))]
 pub fn put_found(answer: &mut [u64; 5], found: Found) -> u8
     ensures { Reads found result answer.new }
 {
     match found {
         Found::Entry(e) => {
-            let words = [0, e.position.0, e.tag as u64, e.len, e.checksum as u64];
-            *answer = words;
+            let [position, tag, len, checksum] = entry_words(e);
+            *answer = [0, position, tag, len, checksum];
             0
         }
         Found::Refused(number) => {
-            let words = [number as u64, 0, 0, 0, 0];
-            *answer = words;
+            *answer = [u64::from(number), 0, 0, 0, 0];
             number
         }
     }
 }
 
 // Of a walk's step.
+#[tactic(auto, using(node_words::proofs::Words::stop_small), unfolding(crate::specs::Answers::step_number, crate::specs::Answers::step_words, crate::specs::Answers::entry_words))]
 pub fn put_step(answer: &mut [u64; 6], step: WalkStep) -> u8
     ensures { Steps step result answer.new }
 {
     match step {
         WalkStep::Entry(e) => {
-            let words = [0, 0, e.position.0, e.tag as u64, e.len, e.checksum as u64];
-            *answer = words;
+            let [position, tag, len, checksum] = entry_words(e);
+            *answer = [0, 0, position, tag, len, checksum];
             0
         }
         WalkStep::Stopped(stop) => {
-            let word = stop_word(stop);
-            let words = [0, word + 1, 0, 0, 0, 0];
-            *answer = words;
+            *answer = [0, stop_word(stop) + 1, 0, 0, 0, 0];
             0
         }
         WalkStep::Refused(number, start) => {
-            let words = [number as u64, 4, start.0, 0, 0, 0];
-            *answer = words;
+            *answer = [u64::from(number), 4, start.0, 0, 0, 0];
             number
         }
     }
 }
 
 // Of a decoded block.
-pub fn put_block(answer: &mut [u64; 15], d: DecodedBlock) -> u8
-    ensures { DecodesBlock d result answer.new }
+#[tactic(auto, unfolding(crate::specs::Answers::block_words, node_words::specs::Words::flag, index::specs::Keys::key_words, index::specs::Keys::digest_words))]
+pub fn put_block(answer: &mut [u64; 15], decoded: Option<(StatementBlock, usize)>) -> u8
+    ensures { DecodesBlock decoded result answer.new }
 {
-    let b = d.block;
-    let k = index::key_of(b.reference);
-    let words = [
-        d.ok as u64,
-        k[0],
-        k[1],
-        k[2],
-        k[3],
-        k[4],
-        k[5],
-        b.includes.at as u64,
-        b.includes.left as u64,
-        b.statements.at as u64,
-        b.statements.left as u64,
-        b.meta_creation_time_ns.low,
-        b.meta_creation_time_ns.high,
-        b.epoch_marker as u64,
-        d.end as u64,
+    let Some((block, end)) = decoded else {
+        *answer = [0; 15];
+        return 0;
+    };
+    let [a, b, c, d, e, f] = index::key_of(block.reference);
+    *answer = [
+        1,
+        a,
+        b,
+        c,
+        d,
+        e,
+        f,
+        block.includes.at as u64,
+        block.includes.left as u64,
+        block.statements.at as u64,
+        block.statements.left as u64,
+        block.meta_creation_time_ns.low,
+        block.meta_creation_time_ns.high,
+        u64::from(block.epoch_marker),
+        end as u64,
     ];
-    *answer = words;
     0
 }
 
 // Of a decoded reference.
-pub fn put_decoded(answer: &mut [u64; 8], d: DecodedReference) -> u8
-    ensures { DecodesReference d result answer.new }
+#[tactic(auto, unfolding(crate::specs::Answers::reference_words, index::specs::Keys::key_words, index::specs::Keys::digest_words))]
+pub fn put_decoded(answer: &mut [u64; 8], decoded: Option<(BlockReference, usize)>) -> u8
+    ensures { DecodesReference decoded result answer.new }
 {
-    let k = index::key_of(d.reference);
-    let words = [
-        d.ok as u64,
-        k[0],
-        k[1],
-        k[2],
-        k[3],
-        k[4],
-        k[5],
-        d.end as u64,
-    ];
-    *answer = words;
+    let Some((reference, end)) = decoded else {
+        *answer = [0; 8];
+        return 0;
+    };
+    let [a, b, c, d, e, f] = index::key_of(reference);
+    *answer = [1, a, b, c, d, e, f, end as u64];
     0
 }

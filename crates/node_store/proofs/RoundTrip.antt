@@ -1,6 +1,5 @@
 -- What is put as words is read from them. Assumes nothing.
-use mathlib.Core.Path.{◌≡◌, refl, sym, ap, ◌∙◌}
-use mathlib.Core.Bool.{Bool, true, false}
+use mathlib.Core.Path.{◌≡◌, refl, sym, ap, ap₂, ◌∙◌}
 use mathlib.Core.List.{List, [], ◌∷◌, ◌++◌, append-nil, append_assoc}
 use Prim.Native.Nat.{ℕ, zero, suc, ◌+◌, ◌*◌, ◌/◌, ◌%◌, ◌^◌, ◌≤◌, ◌<◌}
 use native.Mathlib.Nat.{zero-add, suc-add, add-zero, pow-suc, mul_assoc, mul_comm, one-le-pow, pow-succ', mod-one, mul-add-div_right, div-eq_of_lt, mod-eq_of_lt}
@@ -11,6 +10,7 @@ use borrow.Author.Tests.{le-leb}
 use lib.ListN.{length, get_or, take}
 use lib.Seq.{take-length}
 use Rattle.laws.specs.Pick.{pick}
+use Rattle.std.specs.Prelude.{Option, Some, None}
 use Rattle.laws.specs.Bytes.{bytes_at, AllBytes}
 use Rattle.laws.proofs.Written.{length_bytes_at, bytes_at_add}
 use Rattle.types.specs.declared.BlockReference.{BlockReference}
@@ -31,7 +31,7 @@ use Rattle.recovered.specs.declared.Resumed.TheVariants.{Writer}
 use Rattle.recovered.specs.Answers.{writer_behind, resumed_of}
 use Rattle.store.specs.Store.{open_number, opened_of}
 use Rattle.store.specs.declared.BlockStore.{BlockStore}
-use Rattle.node_words.specs.Words.{flag, walked_words, span_words, found_words, head_words, summary_words, recovered_words}
+use Rattle.node_words.specs.Words.{walked_words, span_words, found_words, head_words, summary_words, recovered_words}
 use Rattle.node_store.specs.Stores.{store_words, words_at, be, flagged, digest_at, reference_at, reference_of, summary_in, store_of, recovery_number, resumed_used, opened_words, opened_number}
 use Rattle.node_store.proofs.Stores.{length_be}
 use Rattle.node_words.proofs.Words.{long_walked, long_head, long_span, long_found}
@@ -107,11 +107,6 @@ key_back w h =
 
 -- ---- A store
 
-flag_back : (t : Bool) → flagged (flag t) ≡ t
-unfolding flagged flag
-flag_back true = refl
-flag_back false = refl
-
 -- words behind another
 words_at_behind : (x : ℕ) (w : List ℕ) (p n : ℕ) → words_at (x ∷ w) (suc p) n ≡ words_at w p n
 unfolding words_at
@@ -126,38 +121,70 @@ words_at_between [] (x ∷ l) rest =
     ap (λ (k : List ℕ). x ∷ k) (words_at_behind x (l ++ rest) 0 (length l) ∙ words_at_between [] l rest)
 words_at_between (x ∷ p) l rest = words_at_behind x (p ++ (l ++ rest)) (length p) (length l) ∙ words_at_between p l rest
 
+-- a last own block has a digest of 32 bytes
+abbrev pub OwnDigested : Option BlockReference → Type 0
+OwnDigested None = Unit {0}
+OwnDigested (Some r) = Digested r
+
+module _ (size own rows loads highest : ℕ) (seen : List ℕ) (long : length seen ≡ 128) (rest : List ℕ) where
+  abbrev store : Option BlockReference → BlockStore
+  store f =
+      record {
+        committee_size = size;
+        authority = own;
+        rows = rows;
+        loads = loads;
+        summary = record { highest_round = highest; last_seen_by_authority = seen; last_own_block = f };
+      }
+
+  seen_back : (p : List ℕ) → length p ≡ 12 → words_at (p ++ (seen ++ rest)) 12 128 ≡ seen
+  seen_back p twelve =
+      ap₂ (λ (n m : ℕ). words_at (p ++ (seen ++ rest)) n m) (sym twelve) (sym long) ∙ words_at_between p seen rest
+
+  by_own_block : (f : Option BlockReference) → OwnDigested f → store_of (store_words (store f) ++ rest) ≡ store f
+  unfolding store_of summary_in flagged pick reference_at digest_at store_words summary_words found_words key_words digest_words
+  by_own_block None digested =
+      λ i.
+      record {
+        committee_size = size;
+        authority = own;
+        rows = rows;
+        loads = loads;
+        summary =
+            record {
+              highest_round = highest;
+              last_seen_by_authority = seen_back (take 12 (store_words (store None))) refl i;
+              last_own_block = None;
+            };
+      }
+  by_own_block (Some r) digested =
+      λ i.
+      record {
+        committee_size = size;
+        authority = own;
+        rows = rows;
+        loads = loads;
+        summary =
+            record {
+              highest_round = highest;
+              last_seen_by_authority = seen_back (take 12 (store_words (store (Some r)))) refl i;
+              last_own_block =
+                  Some
+                  (record {
+                    authority = r.authority;
+                    round = r.round;
+                    digest = record { 0 = digest_back r.digest.0 digested.as_long digested.bytes i };
+                  });
+            };
+      }
+
 module _ (s : BlockStore) (rounds : length s.summary.last_seen_by_authority ≡ 128) where
-  module _ (own : Digested s.summary.last_own_block.reference) where
+  module _ (own : OwnDigested s.summary.last_own_block) where
     -- the store that a store's words stand for, whatever stands behind them
     pub store_behind : (rest : List ℕ) → store_of (store_words s ++ rest) ≡ s
-    unfolding store_of summary_in reference_at digest_at store_words summary_words found_words key_words digest_words
     store_behind rest =
-        let seen = s.summary.last_seen_by_authority in
-        let found = s.summary.last_own_block in
-        let last : words_at (store_words s ++ rest) 12 128 ≡ seen =
-        ap (λ (n : ℕ). words_at (store_words s ++ rest) 12 n) (sym rounds) ∙ words_at_between (take 12 (store_words s)) seen rest in
-        λ i.
-        record {
-          committee_size = s.committee_size;
-          authority = s.authority;
-          rows = s.rows;
-          loads = s.loads;
-          summary =
-              record {
-                highest_round = s.summary.highest_round;
-                last_seen_by_authority = last i;
-                last_own_block =
-                    record {
-                      there = flag_back found.there i;
-                      reference =
-                          record {
-                            authority = found.reference.authority;
-                            round = found.reference.round;
-                            digest = record { 0 = digest_back found.reference.digest.0 own.as_long own.bytes i };
-                          };
-                    };
-              };
-        }
+        by_own_block s.committee_size s.authority s.rows s.loads s.summary.highest_round s.summary.last_seen_by_authority rounds rest
+        s.summary.last_own_block own
 
     pub store_back : store_of (store_words s) ≡ s
     store_back = ap store_of (sym (append-nil (store_words s))) ∙ store_behind []

@@ -1,13 +1,13 @@
 -- The words of a store, and the store that words stand for. Assumes nothing.
-use mathlib.Core.Path.{◌≡◌, refl, sym, ap, ◌∙◌}
+use mathlib.Core.Path.{◌≡◌, refl, sym, ap, ap₂, ◌∙◌}
 use mathlib.Core.List.{List, [], ◌∷◌, ◌++◌}
-use Prim.Native.Nat.{ℕ, zero, suc, ◌+◌, ◌/◌, ◌%◌, ◌≤◌, ◌<◌}
+use Prim.Native.Nat.{ℕ, zero, suc, ◌+◌, ◌/◌, ◌%◌, ◌^◌, ◌<◌}
 use native.Mathlib.Nat.{add-zero, zero-add, suc-add, add-suc, div-one}
 use native.Mathlib.Omega.{arith}
-use lib.ListN.{length, get_or, set, replicate, length-append, length-replicate}
+use lib.ListN.{length, get_or, replicate, length-append, length-replicate}
+use Rattle.std.specs.Int.{bytes_high_first}
 use Rattle.laws.specs.Bytes.{written}
 use Rattle.laws.proofs.Written.{then_written, written_whole}
-use Rattle.laws.proofs.Copying.{Copying, next, done}
 use Rattle.text.specs.Clipped.{clipped}
 use Rattle.store.specs.declared.BlockStore.{BlockStore}
 use Rattle.node_words.specs.Words.{summary_words}
@@ -35,26 +35,24 @@ unfolding words_at
 words_at_add w p zero n = rw (zero-add n, add-zero p)
 words_at_add w p (suc m) n = rw (suc-add m n) (ap (λ (l : List ℕ). get_or w p 0 ∷ l) (words_at_add w (suc p) m n ∙ rw (suc-add p m, add-suc p m)))
 
--- an array of n words that takes those of w from index p on
-module _ (w : List ℕ) (p n : ℕ) {b₀ b : List ℕ} {i : ℕ} (h : Copying b₀ 0 (words_at w p n) b i) (as_long : length b₀ ≡ n) where
-  pub next_word : {x : ℕ} → x ≡ get_or w (p + i) 0 → i < n → Copying b₀ 0 (words_at w p n) (set b i x) (i + 1)
-  next_word e more =
-      let l : length (words_at w p n) ≡ n = length_words_at w p n in
-      rw e (rw (zero-add i, get_or_words_at w p n i more) at (next h (omega arith) (omega arith)))
-
-  pub all_words : n ≤ i → b ≡ words_at w p n
-  all_words all =
-      let l : length (words_at w p n) ≡ n = length_words_at w p n in
-      done h (omega arith) ∙ written_whole b₀ (words_at w p n) (l ∙ sym as_long)
+-- n words from p on are known by each
+pub words_at-by_each : (ys w : List ℕ) (p n : ℕ) → length ys ≡ n → ((k : ℕ) → k < n → get_or ys k 0 ≡ get_or w (p + k) 0) → ys ≡ words_at w p n
+unfolding words_at
+words_at-by_each [] w p zero l h = refl
+words_at-by_each [] w p (suc n) l h = absurd (omega arith)
+words_at-by_each (y ∷ ys) w p zero l h = absurd (omega arith)
+words_at-by_each (y ∷ ys) w p (suc n) l h =
+    ap₂ ◌∷◌ (h 0 (omega arith) ∙ ap (λ (q : ℕ). get_or w q 0) (add-zero p))
+    (words_at-by_each ys w (suc p) n (omega arith) (λ k m. h (suc k) (omega arith) ∙ ap (λ (q : ℕ). get_or w q 0) (add-suc p k ∙ sym (suc-add p k))))
 
 -- ---- A digest
 
-pub be_eight : (x : ℕ)
-    → be 8 x
-    ≡ x / 72057594037927936 % 256 ∷ x / 281474976710656 % 256 ∷ x / 1099511627776 % 256 ∷ x / 4294967296 % 256
-    ∷ x / 16777216 % 256 ∷ x / 65536 % 256 ∷ x / 256 % 256 ∷ x % 256 ∷ []
+-- the machine's bytes of a number, the most significant first
+pub bytes_high_first-be : (n x : ℕ) → bytes_high_first n x ≡ be n x
 unfolding be
-be_eight x = rw (div-one x)
+bytes_high_first-be zero x = refl
+bytes_high_first-be (suc zero) x = ap (λ (k : ℕ). k % 256 ∷ []) (sym (div-one x))
+bytes_high_first-be (suc (suc n)) x = ap (λ (l : List ℕ). x / 256 ^ suc n % 256 ∷ l) (bytes_high_first-be (suc n) x)
 
 pub length_be : (n x : ℕ) → length (be n x) ≡ n
 unfolding be

@@ -1,5 +1,5 @@
 -- The words of a store, which a caller keeps between calls, and the store and the reference that words stand for.
-use Rattle.std.specs.Prelude.{Bool, not, List, [], ◌∷◌, ◌++◌, ℕ, zero, suc, ◌+◌, ◌/◌, ◌%◌, ◌^◌, leb, eqb, get_or}
+use Rattle.std.specs.Prelude.{Bool, not, List, [], ◌∷◌, ◌++◌, ℕ, zero, suc, ◌+◌, ◌/◌, ◌%◌, ◌^◌, leb, eqb, get_or, Some, None}
 use Rattle.laws.specs.Pick.{pick}
 use Rattle.wal_position.specs.Checks.{unless}
 use Rattle.committee.specs.Committee.{committee_check}
@@ -45,7 +45,7 @@ summary_in w =
     record {
       highest_round = get_or w 11 0;
       last_seen_by_authority = words_at w 12 128;
-      last_own_block = record { there = flagged (get_or w 4 0); reference = reference_at w 5 };
+      last_own_block = pick (flagged (get_or w 4 0)) (Some (reference_at w 5)) None;
     }
 
 unfoldable pub store_of : List ℕ → BlockStore

@@ -1,5 +1,6 @@
 // The words of a store, which a caller of the crate node keeps between calls, and the store and the
 // reference that words stand for.
+// Kept: a number as the answer of each call, as the interface for C has it.
 #![tactic(auto)]
 
 ghost use Rattle.std.specs.Prelude.{◌≡◌, ◌+◌, ◌≤◌, get_or};
@@ -8,7 +9,7 @@ ghost use Rattle.text.specs.Clipped.{clipped};
 ghost use Rattle.node_store.specs.Stores.{be, words_at, digest_at, reference_at, summary_in, store_of, store_words, store_after, recovery_number, resumed_used, opened_number, opened_words, opened_after};
 
 use crypto::BlockDigest;
-use index::{FoundReference, StoreSummary};
+use index::StoreSummary;
 use store::BlockStore;
 use types::BlockReference;
 
@@ -16,13 +17,11 @@ use types::BlockReference;
 fn word_at(words: &[u64], at: usize, i: usize) -> u64
     ensures { result ≡ get_or words.now (at + i) 0 }
 {
-    if words.len() <= at {
-        return 0;
-    }
-    if words.len() - at <= i {
-        return 0;
-    }
-    words[at + i]
+    words
+        .get(at..)
+        .and_then(|rest| rest.get(i))
+        .copied()
+        .unwrap_or(0)
 }
 
 // The 128 words from index at on.
@@ -30,28 +29,10 @@ fn rounds_at(words: &[u64], at: usize) -> [u64; 128]
     ensures { result ≡ words_at words.now at 128 }
 {
     let mut rounds = [0u64; 128];
-    let mut i = 0;
-    while i < 128 {
-        rounds[i] = word_at(words, at, i);
-        i += 1;
+    for (i, round) in rounds.iter_mut().enumerate() {
+        *round = word_at(words, at, i);
     }
     rounds
-}
-
-// The 8 bytes of a word, the most significant first.
-fn be_bytes(x: u64) -> [u8; 8]
-    ensures { result ≡ be 8 x }
-{
-    [
-        (x / 0x100_0000_0000_0000 % 256) as u8,
-        (x / 0x1_0000_0000_0000 % 256) as u8,
-        (x / 0x100_0000_0000 % 256) as u8,
-        (x / 0x1_0000_0000 % 256) as u8,
-        (x / 0x100_0000 % 256) as u8,
-        (x / 0x1_0000 % 256) as u8,
-        (x / 0x100 % 256) as u8,
-        (x % 256) as u8,
-    ]
 }
 
 // A digest with the bytes of a word from index at on.
@@ -59,13 +40,8 @@ fn put_be(digest: [u8; 32], at: usize, x: u64) -> [u8; 32]
     requires { at + 8 ≤ 32 }
     ensures { result ≡ written digest at (be 8 x) }
 {
-    let bytes = be_bytes(x);
     let mut d = digest;
-    let mut i = 0;
-    while i < 8 {
-        d[at + i] = bytes[i];
-        i += 1;
-    }
+    fields::put_bytes(&mut d, at, &x.to_be_bytes());
     d
 }
 
@@ -95,11 +71,8 @@ pub fn reference_at(words: &[u64], at: usize) -> BlockReference
 fn summary_of(words: &[u64]) -> StoreSummary
     ensures { result ≡ summary_in words.now }
 {
-    let reference = reference_at(words, 5);
-    let last_own_block = FoundReference {
-        there: word_at(words, 4, 0) != 0,
-        reference,
-    };
+    let is_there = word_at(words, 4, 0) != 0;
+    let last_own_block = is_there.then_some(reference_at(words, 5));
     StoreSummary {
         highest_round: word_at(words, 11, 0),
         last_seen_by_authority: rounds_at(words, 12),

@@ -8,6 +8,9 @@ use native.Mathlib.Nat.{add_assoc}
 use native.Mathlib.Omega.{arith}
 use lib.Dec.{lit≤}
 use lib.ListN.{length, drop_of_length-le, length-append}
+use Rattle.std.specs.Prelude.{Option, Some, None}
+use Rattle.bincode.specs.declared.Cursor.{Cursor}
+use Rattle.types.specs.declared.BlockReference.{BlockReference}
 use Rattle.text.specs.Clipped.{clipped}
 use Rattle.text.proofs.Clipped.{clipped_fits, then_clipped}
 use Rattle.wal.specs.declared.Stop.{Stop}
@@ -15,10 +18,7 @@ use Rattle.wal.specs.declared.Stop.TheVariants.{End, Zeros, Torn}
 use Rattle.wal.specs.declared.Walked.{Walked}
 use Rattle.wal.specs.declared.Walked.TheVariants.{Stopped, Refused}
 use Rattle.index.specs.Keys.{key_words, digest_words}
-use Rattle.index.specs.declared.FoundReference.{FoundReference}
 use Rattle.index.specs.declared.StoreSummary.{StoreSummary}
-use Rattle.state.specs.declared.Span.{Span}
-use Rattle.state.specs.declared.Span.TheVariants.{Nothing, At}
 use Rattle.recovered.specs.declared.Recovered.{Recovered}
 use Rattle.node_words.specs.Words.{flag, stop_word, walked_words, span_words, found_words, head_words, summary_words, recovered_words}
 
@@ -56,14 +56,15 @@ unfolding head_words
 long_head r =
     length-append (walked_words r.walked) _ ∙ ap (λ (n : ℕ). n + 4) (long_walked r.walked)
 
-pub long_span : (s : Span) → length (span_words s) ≡ 3
+pub long_span : (s : Option Cursor) → length (span_words s) ≡ 3
 unfolding span_words
-long_span Nothing = refl
-long_span (At at n) = refl
+long_span None = refl
+long_span (Some c) = refl
 
-pub long_found : (f : FoundReference) → length (found_words f) ≡ 7
+pub long_found : (f : Option BlockReference) → length (found_words f) ≡ 7
 unfolding found_words key_words digest_words
-long_found f = refl
+long_found None = refl
+long_found (Some r) = refl
 
 -- the parts of a summary, put one behind the other
 pub summary_put : (s : StoreSummary) (o : List ℕ) (p : ℕ) {o1 o2 o3 : List ℕ}

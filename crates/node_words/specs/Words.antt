@@ -1,14 +1,13 @@
 -- An answer as words, in the order in which a call writes them. What is missing is zeros.
-use Rattle.std.specs.Prelude.{Bool, true, false, List, [], ◌∷◌, ◌++◌, ℕ}
+use Rattle.std.specs.Prelude.{Bool, true, false, Option, Some, None, List, [], ◌∷◌, ◌++◌, ℕ, replicate}
 use Rattle.wal.specs.declared.Stop.{Stop}
 use Rattle.wal.specs.declared.Stop.TheVariants.{End, Zeros, Torn}
 use Rattle.wal.specs.declared.Walked.{Walked}
 use Rattle.wal.specs.declared.Walked.TheVariants.{Stopped, Refused}
+use Rattle.bincode.specs.declared.Cursor.{Cursor}
+use Rattle.types.specs.declared.BlockReference.{BlockReference}
 use Rattle.index.specs.Keys.{key_words}
-use Rattle.index.specs.declared.FoundReference.{FoundReference}
 use Rattle.index.specs.declared.StoreSummary.{StoreSummary}
-use Rattle.state.specs.declared.Span.{Span}
-use Rattle.state.specs.declared.Span.TheVariants.{Nothing, At}
 use Rattle.recovered.specs.declared.Recovered.{Recovered}
 
 unfoldable pub flag : Bool → ℕ
@@ -27,13 +26,14 @@ walked_words (Stopped w e unread) = 0 ∷ 0 ∷ stop_word w ∷ e.0 ∷ unread �
 walked_words (Refused n p) = n ∷ p.0 ∷ 3 ∷ 0 ∷ 0 ∷ []
 
 -- three words: whether there are bytes, where they begin, and how many they are
-unfoldable pub span_words : Span → List ℕ
-span_words Nothing = 0 ∷ 0 ∷ 0 ∷ []
-span_words (At at n) = 1 ∷ at ∷ n ∷ []
+unfoldable pub span_words : Option Cursor → List ℕ
+span_words None = replicate 3 0
+span_words (Some c) = 1 ∷ c.at ∷ c.left ∷ []
 
--- seven words
-unfoldable pub found_words : FoundReference → List ℕ
-found_words f = flag f.there ∷ key_words f.reference
+-- seven words: whether there is a reference, and its row's key
+unfoldable pub found_words : Option BlockReference → List ℕ
+found_words None = replicate 7 0
+found_words (Some r) = 1 ∷ key_words r
 
 -- the walk's answer, and how many rows each table has
 unfoldable pub head_words : Recovered → List ℕ

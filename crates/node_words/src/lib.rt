@@ -5,9 +5,10 @@ ghost use Rattle.std.specs.Prelude.{◌≡◌, ◌≤◌, length};
 ghost use Rattle.text.specs.Clipped.{clipped};
 ghost use Rattle.node_words.specs.Words.{stop_word, walked_words, span_words, found_words, head_words, summary_words, recovered_words};
 
-use index::{FoundReference, StoreSummary};
+use bincode::Cursor;
+use index::StoreSummary;
 use recovered::Recovered;
-use state::Span;
+use types::BlockReference;
 use wal::{Stop, Walked};
 
 // Puts words from index at on, as far as out reaches.
@@ -17,16 +18,12 @@ pub fn put_words(out: &mut [u64], at: usize, words: &[u64])
     if out.len() <= at {
         return;
     }
-    let mut i = 0;
-    while i < words.len() {
-        if out.len() - at <= i {
-            return;
-        }
-        out[at + i] = words[i];
-        i += 1;
-    }
+    let n = words.len().min(out.len() - at);
+    out[at..at + n].copy_from_slice(&words[..n]);
 }
 
+// Kept: a From<Stop> for u64 could stand in the crate wal alone, and these codes are the C interface's.
+#[tactic(auto, unfolding(crate::specs::Words::stop_word))]
 pub fn stop_word(stop: Stop) -> u64
     ensures { result ≡ stop_word stop }
 {
@@ -38,6 +35,7 @@ pub fn stop_word(stop: Stop) -> u64
 }
 
 // A walk's answer: the number, the start of the entry concerned, the stop code, E and the unread count.
+#[tactic(auto, unfolding(crate::specs::Words::walked_words))]
 pub fn walk_words(walked: Walked) -> [u64; 5]
     ensures { result ≡ walked_words walked }
 {
@@ -46,32 +44,44 @@ pub fn walk_words(walked: Walked) -> [u64; 5]
             let word = stop_word(stop);
             [0, 0, word, e.0, unread]
         }
-        Walked::Refused(number, start) => [number as u64, start.0, 3, 0, 0],
+        Walked::Refused(number, start) => [u64::from(number), start.0, 3, 0, 0],
     }
 }
 
 // Bytes that may be missing: whether they are there, where they begin, and how many they are.
-pub fn span_words(s: Span) -> [u64; 3]
-    ensures { result ≡ span_words s }
+#[tactic(auto, unfolding(crate::specs::Words::span_words))]
+pub fn span_words(span: Option<Cursor>) -> [u64; 3]
+    ensures { result ≡ span_words span }
 {
-    match s {
-        Span::Nothing => [0, 0, 0],
-        Span::At(at, len) => [1, at as u64, len as u64],
+    match span {
+        None => [0; 3],
+        Some(bytes) => [1, bytes.at as u64, bytes.left as u64],
     }
 }
 
-fn put_span(out: &mut [u64], at: usize, s: Span)
-    ensures { out.new ≡ clipped out.old at (span_words s) }
+fn put_span(out: &mut [u64], at: usize, span: Option<Cursor>)
+    ensures { out.new ≡ clipped out.old at (span_words span) }
 {
-    let words = span_words(s);
+    let words = span_words(span);
     put_words(out, at, &words);
 }
 
-fn put_reference(out: &mut [u64], at: usize, f: FoundReference)
-    ensures { out.new ≡ clipped out.old at (found_words f) }
+// A reference that may be missing: whether it is there, and its row's key.
+#[tactic(auto, unfolding(crate::specs::Words::found_words, index::specs::Keys::key_words, index::specs::Keys::digest_words))]
+fn found_words(reference: Option<BlockReference>) -> [u64; 7]
+    ensures { result ≡ found_words reference }
 {
-    let k = index::key_of(f.reference);
-    let words = [f.there as u64, k[0], k[1], k[2], k[3], k[4], k[5]];
+    let Some(reference) = reference else {
+        return [0; 7];
+    };
+    let [a, b, c, d, e, f] = index::key_of(reference);
+    [1, a, b, c, d, e, f]
+}
+
+fn put_reference(out: &mut [u64], at: usize, reference: Option<BlockReference>)
+    ensures { out.new ≡ clipped out.old at (found_words reference) }
+{
+    let words = found_words(reference);
     put_words(out, at, &words);
 }
 

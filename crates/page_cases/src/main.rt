@@ -13,8 +13,6 @@
 // `recovery_page` of the image that they are.
 #![tactic(auto)]
 
-ghost use Rattle.std.specs.Prelude.{◌≤◌, length};
-
 use case_lines::{behind, blank, bytes_at, end_line, feed_table, hex, number, number_at, plus};
 use std::io;
 
@@ -45,7 +43,7 @@ pub struct Call {
 // The length of the whole text, and the checksum of the buffer.
 fn show_length(rt: &impl Print, length: usize, out: &[u8]) -> io::Result<()> {
     number(rt, length as u64)?;
-    hex(rt, checksum::hash(out) as u64, 8)
+    hex(rt, u64::from(checksum::hash(out)), 8)
 }
 
 fn show_tables(
@@ -55,18 +53,11 @@ fn show_tables(
     committed: &[u64],
     index: &[u64],
 ) -> io::Result<()> {
-    let one = feed_table(0xffff_ffff, pending);
-    let two = feed_table(one, unprocessed);
-    let three = feed_table(two, committed);
-    let four = feed_table(three, index);
-    hex(rt, !four as u64, 8)
-}
-
-// The bytes of a buffer up to n, of those that are there.
-fn held(n: usize, out: &[u8]) -> usize
-    ensures { result ≤ length out.now }
-{
-    if n < out.len() { n } else { out.len() }
+    let mut register = 0xffff_ffff;
+    for table in [pending, unprocessed, committed, index] {
+        register = feed_table(register, table);
+    }
+    hex(rt, u64::from(!register), 8)
 }
 
 fn show_text(rt: &impl Print, shown: u64, length: usize, out: &[u8]) -> io::Result<()> {
@@ -74,8 +65,7 @@ fn show_text(rt: &impl Print, shown: u64, length: usize, out: &[u8]) -> io::Resu
     if shown == 0 {
         return Ok(());
     }
-    let n = held(length, out);
-    rt.write_all(&out[..n])?;
+    rt.write_all(&out[..length.min(out.len())])?;
     end_line(rt)
 }
 
@@ -109,21 +99,10 @@ fn ask_recovery(
         index,
         out,
     );
-    number(rt, r.number as u64)?;
+    number(rt, u64::from(r.number))?;
     show_length(rt, r.length, out)?;
     show_tables(rt, pending, unprocessed, committed, index)?;
     show_text(rt, call.shown, r.length, out)
-}
-
-// The words lent, of those that are there.
-fn within(n: u64, t: &[u64]) -> usize
-    ensures { result ≤ length t.now }
-{
-    if (n as usize) < t.len() {
-        n as usize
-    } else {
-        t.len()
-    }
 }
 
 // Lends the tables, each as long as the case says.
@@ -137,10 +116,10 @@ fn lend_tables(
     index: &mut [u64],
     out: &mut [u8],
 ) -> io::Result<()> {
-    let p = within(call.pending, pending);
-    let u = within(call.unprocessed, unprocessed);
-    let c = within(call.committed, committed);
-    let i = within(call.index, index);
+    let p = pending.len().min(call.pending as usize);
+    let u = unprocessed.len().min(call.unprocessed as usize);
+    let c = committed.len().min(call.committed as usize);
+    let i = index.len().min(call.index as usize);
     ask_recovery(
         rt,
         call,
@@ -180,7 +159,7 @@ fn run(rt: &impl Print, call: Call, bytes: &[u8], out: &mut [u8]) -> io::Result<
 
 // Lends the buffer, as long as the case says.
 fn lend_buffer(rt: &impl Print, call: Call, bytes: &[u8], text: &mut [u8]) -> io::Result<()> {
-    let n = held(call.room as usize, text);
+    let n = text.len().min(call.room as usize);
     run(rt, call, bytes, &mut text[..n])
 }
 
@@ -213,21 +192,6 @@ fn show_case(rt: &impl Print, s: &[u8], at: usize) -> io::Result<usize> {
     Ok(behind(s, bytes))
 }
 
-fn show_all(rt: &impl Print, s: &[u8]) -> io::Result<()> {
-    let count = number_at(s, 0);
-    let mut at = 8;
-    let mut i = 0;
-    while i < count {
-        i += 1;
-        print!(rt; "{i}")?;
-        blank(rt)?;
-        at = show_case(rt, s, at)?;
-    }
-    Ok(())
-}
-
 fn main(rt: HostRuntime) -> io::Result<()> {
-    let mut input = [0u8; 524288];
-    let n = case_lines::read_full(&mut rt.stdin(), &mut input)?;
-    show_all(&rt, &input[..n])
+    case_lines::run_cases::<524288, _>(&rt, show_case)
 }

@@ -5,26 +5,11 @@
 // The file `stdout` was made by tools/model/reader_cases.py, a model written from document 01.
 #![tactic(auto)]
 
-use case_lines::{end_line, hex, number, part};
-use meta_statement::{MetaKind, MetaStatement};
+use case_lines::{blank, end_line, hex, number, part, refused, stop_word};
+use meta_statement::MetaStatement;
 use std::io;
-use wal::{Place, Stop, WalEntry, WalPosition, WalWriter, WalkStep};
+use wal::{Place, WalEntry, WalPosition, WalWriter, WalkStep};
 use wal_iterator::Stepped;
-
-// ---- Lines
-
-fn refused(rt: &impl Print, n: u8) -> io::Result<()> {
-    print!(rt; " REFUSED")?;
-    number(rt, n as u64)
-}
-
-fn word(rt: &impl Print, stop: Stop) -> io::Result<()> {
-    match stop {
-        Stop::End => print!(rt; " END"),
-        Stop::Zeros => print!(rt; " ZEROS"),
-        Stop::Torn => print!(rt; " TORN"),
-    }
-}
 
 // ---- Writing a log
 
@@ -48,10 +33,8 @@ fn put(
     payload: &[u8],
 ) -> io::Result<WalWriter> {
     let moved = wal_iterator::append_through(writer, image, tag, payload);
-    let after = moved.writer;
-    let place = moved.place;
-    show_place(rt, place, after.used)?;
-    Ok(after)
+    show_place(rt, moved.place, moved.writer.used)?;
+    Ok(moved.writer)
 }
 
 // A block of authority 2 in round 3, without includes or statements.
@@ -149,44 +132,27 @@ fn write_log(rt: &impl Print, image: &mut [u8]) -> io::Result<u64> {
 
 // ---- Reading it
 
-// The authority, the round and the digest's checksum.
-fn show_include(rt: &impl Print, m: MetaStatement) -> io::Result<()> {
-    let r = m.reference;
-    let digest = r.digest;
-    let bytes = digest.0;
-    print!(rt; "include")?;
-    number(rt, r.authority)?;
-    number(rt, r.round)?;
-    hex(rt, checksum::hash(&bytes) as u64, 8)?;
-    end_line(rt)
-}
-
-// The number of statements, and where the first stands in the payload.
-fn show_payload(rt: &impl Print, m: MetaStatement) -> io::Result<()> {
-    let statements = m.statements;
-    print!(rt; "payload")?;
-    number(rt, statements.left as u64)?;
-    number(rt, statements.at as u64)?;
-    end_line(rt)
-}
-
-fn show_meta(rt: &impl Print, m: MetaStatement) -> io::Result<()> {
-    let kind = m.kind;
-    match kind {
-        MetaKind::Nothing => {
-            print!(rt; "nothing")?;
-            end_line(rt)
+// A reference's authority and round and its digest's checksum; a payload's number of statements, and where the
+// first stands in it.
+fn show_meta(rt: &impl Print, statement: Option<MetaStatement>) -> io::Result<()> {
+    match statement {
+        None => print!(rt; "nothing")?,
+        Some(MetaStatement::Include(reference)) => {
+            print!(rt; "include {} {}", reference.authority, reference.round)?;
+            hex(rt, u64::from(checksum::hash(&reference.digest.0)), 8)?;
         }
-        MetaKind::Include => show_include(rt, m),
-        MetaKind::Payload => show_payload(rt, m),
+        Some(MetaStatement::Payload(statements)) => {
+            print!(rt; "payload {} {}", statements.left, statements.at)?;
+        }
     }
+    end_line(rt)
 }
 
 fn show_entry(rt: &impl Print, image: &[u8], entry: WalEntry, end: WalPosition) -> io::Result<()> {
     number(rt, entry.position.0)?;
-    number(rt, entry.tag as u64)?;
+    number(rt, u64::from(entry.tag))?;
     number(rt, entry.len)?;
-    hex(rt, entry.checksum as u64, 8)?;
+    hex(rt, u64::from(entry.checksum), 8)?;
     show_end(rt, end)?;
     let start = entry.position.add(16);
     let payload = part(image, start.0 as usize, end.0 as usize);
@@ -201,13 +167,16 @@ fn show_end(rt: &impl Print, end: WalPosition) -> io::Result<()> {
 
 // What a step answered, and E after it.
 fn show_step(rt: &impl Print, image: &[u8], stepped: Stepped) -> io::Result<()> {
-    let step = stepped.step;
-    let end = stepped.position;
+    let Stepped {
+        step,
+        position: end,
+    } = stepped;
     print!(rt; "next")?;
     match step {
         WalkStep::Entry(entry) => show_entry(rt, image, entry, end),
         WalkStep::Stopped(stop) => {
-            word(rt, stop)?;
+            blank(rt)?;
+            stop_word(rt, stop)?;
             show_end(rt, end)
         }
         WalkStep::Refused(n, start) => {
@@ -224,18 +193,10 @@ fn show_steps(rt: &impl Print, k: u64, image: &[u8], used: u64) -> io::Result<Wa
     loop {
         let stepped = wal_iterator::step_through(k, image, used, e);
         show_step(rt, image, stepped)?;
-        let step = stepped.step;
-        match step {
-            WalkStep::Entry(_) => {
-                e = stepped.position;
-            }
-            WalkStep::Stopped(_) => {
-                return Ok(stepped.position);
-            }
-            WalkStep::Refused(_, _) => {
-                return Ok(stepped.position);
-            }
-        }
+        let WalkStep::Entry(_) = stepped.step else {
+            return Ok(stepped.position);
+        };
+        e = stepped.position;
     }
 }
 
@@ -251,12 +212,9 @@ fn show_log(rt: &impl Print, k: u64, image: &[u8], used: u64) -> io::Result<()> 
 
 // The log at some cuts, and with an exponent and a used that every call refuses.
 fn show_cuts(rt: &impl Print, image: &[u8], used: u64) -> io::Result<()> {
-    show_log(rt, 8, image, used)?;
-    show_log(rt, 8, image, 700)?;
-    show_log(rt, 8, image, 600)?;
-    show_log(rt, 8, image, 500)?;
-    show_log(rt, 8, image, 440)?;
-    show_log(rt, 8, image, 0)?;
+    for cut in [used, 700, 600, 500, 440, 0] {
+        show_log(rt, 8, image, cut)?;
+    }
     show_log(rt, 5, image, used)?;
     show_log(rt, 8, image, 801)
 }

@@ -5,12 +5,18 @@
 // bincode 1.3.3: the records, and what the Rust says of each.
 #![tactic(auto)]
 
-use case_lines::{end_line, hex, more, number, part, plus};
-use commits::Commit;
-use encode::Encoded;
+ghost use Rattle.std.specs.Prelude.{◌<◌, length};
+
+use bincode::Decode;
+use blocks::StatementBlock;
+use case_lines::{end_line, hex, number, part, plus};
+use commits::{Commit, OwnBlockData};
+use encode::EncodeError;
 use encode_blocks::BlockFields;
-use statements::StatementKind;
+use put_records::Encode;
+use statements::BaseStatement;
 use std::io;
+use types::{BlockReference, TransactionLocator, TransactionLocatorRange};
 
 // What was asked of a record so far.
 #[derive(Clone, Copy)]
@@ -19,258 +25,176 @@ pub struct Tally {
     pub accepted: u64,
 }
 
-fn minus(a: usize, b: usize) -> usize {
-    if a < b { 0 } else { a - b }
+// The record at `at`, whose decoder answers None where there is none.
+fn decoded<T: Decode>(s: &[u8], at: usize) -> Result<(T, usize), EncodeError> {
+    T::decode(s, at).ok_or(EncodeError::Malformed)
 }
 
-fn statement_again(s: &[u8], out: &mut [u8]) -> Encoded {
-    let d = statements::decode_statement(s, 0);
-    if !d.ok {
-        return Encoded::Malformed;
-    }
-    let st = d.statement;
-    let kind = st.kind;
-    let locator = st.locator;
-    let vote = st.vote;
-    let range = st.range;
-    let start = st.start;
-    let end = plus(start, st.count);
-    match kind {
-        StatementKind::Share => encode::encode_share(out, 0, part(s, start, end)),
-        StatementKind::Vote => encode::encode_vote(out, 0, locator, vote),
-        StatementKind::VoteRange => encode::encode_vote_range(out, 0, range),
+// A record of its own.
+fn record_again<T: Decode + Encode>(s: &[u8], out: &mut [u8]) -> Result<usize, EncodeError> {
+    let (record, _) = decoded::<T>(s, 0)?;
+    encode::encode_record(out, 0, record)
+}
+
+fn statement_again(s: &[u8], out: &mut [u8]) -> Result<usize, EncodeError> {
+    let (statement, _) = decoded::<BaseStatement>(s, 0)?;
+    match statement {
+        BaseStatement::Share(bytes) => {
+            encode::encode_share(out, 0, part(s, bytes.at, plus(bytes.at, bytes.left)))
+        }
+        BaseStatement::Vote(locator, vote) => encode::encode_vote(out, 0, locator, vote),
+        BaseStatement::VoteRange(range) => encode::encode_vote_range(out, 0, range),
     }
 }
 
 // Behind the statements stand 89 bytes: the time, the marker and the signature with its count.
-fn block_again(s: &[u8], at: usize, out: &mut [u8]) -> Encoded {
-    let d = blocks::decode_block(s, at);
-    if !d.ok {
-        return Encoded::Malformed;
-    }
-    let b = d.block;
-    let reference = b.reference;
-    let includes = b.includes;
-    let statements = b.statements;
-    let time = b.meta_creation_time_ns;
-    let signature = b.signature;
+fn block_again(s: &[u8], at: usize, out: &mut [u8]) -> Result<usize, EncodeError> {
+    let (block, end) = decoded::<StatementBlock>(s, at)?;
+    let StatementBlock {
+        includes,
+        statements,
+        ..
+    } = block;
     let fields = BlockFields {
-        reference,
+        reference: block.reference,
         include_count: includes.left as u64,
         statement_count: statements.left as u64,
-        time_low: time.low,
-        time_high: time.high,
-        epoch_marker: b.epoch_marker,
-        signature,
+        time_low: block.meta_creation_time_ns.low,
+        time_high: block.meta_creation_time_ns.high,
+        epoch_marker: block.epoch_marker,
+        signature: block.signature,
     };
-    let first = includes.at;
-    let second = statements.at;
-    let third = minus(d.end, 89);
     encode_blocks::encode_block(
         out,
         0,
         fields,
-        part(s, first, minus(second, 8)),
-        part(s, second, third),
+        part(s, includes.at, statements.at.saturating_sub(8)),
+        part(s, statements.at, end.saturating_sub(89)),
     )
 }
 
-fn own_block_again(s: &[u8], out: &mut [u8]) -> Encoded {
-    let d = commits::decode_own_block(s, 0);
-    if !d.ok {
-        return Encoded::Malformed;
-    }
+fn own_block_again(s: &[u8], out: &mut [u8]) -> Result<usize, EncodeError> {
+    let (own_block, _) = decoded::<OwnBlockData>(s, 0)?;
     let mut space = [0u8; 1024];
-    let block: &mut [u8] = &mut space;
-    let Encoded::End(end) = block_again(s, 8, block) else {
-        return Encoded::Malformed;
-    };
-    let own = d.own_block;
-    encode_commits::encode_own_block(out, 0, own.next_entry, part(block, 0, end))
+    let end = block_again(s, 8, &mut space).map_err(|_| EncodeError::Malformed)?;
+    encode_commits::encode_own_block(out, 0, own_block.next_entry, part(&space, 0, end))
 }
 
-fn commit_again(s: &[u8], out: &mut [u8]) -> Encoded {
-    let Commit::Got {
-        commits,
-        state,
-        count,
-        end: _,
-    } = commits::decode_commit(s, 0)
-    else {
-        return Encoded::Malformed;
-    };
-    let first = commits.at;
-    let list = part(s, first, minus(state, 8));
+fn commit_again(s: &[u8], out: &mut [u8]) -> Result<usize, EncodeError> {
+    let (Commit { commits, state }, _) = decoded::<Commit>(s, 0)?;
     encode_commits::encode_commit(
         out,
         0,
-        list,
+        part(s, commits.at, state.at.saturating_sub(8)),
         commits.left as u64,
-        part(s, state, plus(state, count)),
+        part(s, state.at, plus(state.at, state.left)),
     )
 }
 
-fn fixed_again(kind: u8, s: &[u8], out: &mut [u8]) -> Encoded {
-    if kind == 1 {
-        let d = types::decode_reference(s, 0);
-        if !d.ok {
-            return Encoded::Malformed;
-        }
-        return encode::encode_reference(out, 0, d.reference);
+fn again(kind: u8, s: &[u8], out: &mut [u8]) -> Result<usize, EncodeError> {
+    match kind {
+        1 => record_again::<BlockReference>(s, out),
+        2 => record_again::<TransactionLocator>(s, out),
+        0 | 3 => record_again::<TransactionLocatorRange>(s, out),
+        4 => statement_again(s, out),
+        5 => block_again(s, 0, out),
+        6 => payloads::payload_again(s, out),
+        7 => own_block_again(s, out),
+        _ => commit_again(s, out),
     }
-    if kind == 2 {
-        let d = types::decode_locator(s, 0);
-        if !d.ok {
-            return Encoded::Malformed;
-        }
-        return encode::encode_locator(out, 0, d.locator);
-    }
-    let d = types::decode_range(s, 0);
-    if !d.ok {
-        return Encoded::Malformed;
-    }
-    encode::encode_range(out, 0, d.range)
-}
-
-fn again(kind: u8, s: &[u8], out: &mut [u8]) -> Encoded {
-    if kind <= 3 {
-        return fixed_again(kind, s, out);
-    }
-    if kind == 4 {
-        return statement_again(s, out);
-    }
-    if kind == 5 {
-        return block_again(s, 0, out);
-    }
-    if kind == 6 {
-        return payloads::payload_again(s, out);
-    }
-    if kind == 7 {
-        return own_block_again(s, out);
-    }
-    commit_again(s, out)
 }
 
 fn ask(kind: u8, s: &[u8], tally: Tally) -> Tally {
-    let mut space = [0u8; 1024];
-    let out: &mut [u8] = &mut space;
-    let Encoded::End(end) = again(kind, s, out) else {
+    let mut out = [0u8; 1024];
+    let Ok(end) = again(kind, s, &mut out) else {
         return Tally {
-            register: checksum::update(tally.register, &[0u8]),
-            accepted: tally.accepted,
+            register: checksum::update(tally.register, &[0]),
+            ..tally
         };
     };
-    let one = checksum::update(tally.register, &[1u8]);
+    let one = checksum::update(tally.register, &[1]);
     Tally {
-        register: checksum::update(one, part(out, 0, end)),
-        accepted: more(tally.accepted),
+        register: checksum::update(one, part(&out, 0, end)),
+        accepted: tally.accepted.saturating_add(1),
     }
 }
 
 // Each beginning of the record.
 fn ask_cuts(kind: u8, s: &[u8], tally: Tally) -> Tally {
     let mut t = tally;
-    let mut n = 0;
-    while n < s.len() {
+    for n in 0..s.len() {
         t = ask(kind, &s[..n], t);
-        n += 1;
     }
     t
 }
 
-// The record with one byte changed.
-fn ask_with(kind: u8, s: &mut [u8], i: usize, b: u8, tally: Tally) -> Tally {
-    if s.len() <= i {
-        return tally;
-    }
+// The record with one byte changed, in three ways.
+fn ask_changed(kind: u8, s: &mut [u8], i: usize, tally: Tally) -> Tally
+    requires { i < length s.old }
+{
     let kept = s[i];
-    s[i] = b;
-    let t = ask(kind, s, tally);
+    let mut t = tally;
+    for b in [kept ^ 1, kept.wrapping_add(2), 255] {
+        s[i] = b;
+        t = ask(kind, s, t);
+    }
     s[i] = kept;
     t
 }
 
-fn flipped(b: u8) -> u8 {
-    if b % 2 == 0 {
-        if b < 255 { b + 1 } else { 255 }
-    } else {
-        b - 1
-    }
-}
-
-fn two_more(b: u8) -> u8 {
-    ((b as u32 + 2) % 256) as u8
-}
-
-fn byte_at(s: &[u8], i: usize) -> u8 {
-    if i < s.len() { s[i] } else { 0 }
-}
-
-fn ask_changed(kind: u8, s: &mut [u8], i: usize, tally: Tally) -> Tally {
-    let b = byte_at(s, i);
-    let one = ask_with(kind, s, i, flipped(b), tally);
-    let two = ask_with(kind, s, i, two_more(b), one);
-    ask_with(kind, s, i, 255, two)
-}
-
 fn ask_damaged(kind: u8, s: &mut [u8], tally: Tally) -> Tally {
-    let n = s.len();
     let mut t = tally;
-    let mut i = 0;
-    while i < n {
+    for i in 0..s.len() {
         t = ask_changed(kind, s, i, t);
-        i += 1;
     }
     t
 }
 
-fn show_block(rt: &impl Print, s: &[u8], at: usize) -> io::Result<()> {
-    let d = blocks::decode_block(s, at);
-    let b = d.block;
-    let reference = b.reference;
-    let includes = b.includes;
-    let statements = b.statements;
-    let time = b.meta_creation_time_ns;
+fn show_reference(rt: &impl Print, reference: BlockReference) -> io::Result<()> {
     number(rt, reference.authority)?;
-    number(rt, reference.round)?;
-    number(rt, includes.left as u64)?;
-    number(rt, statements.left as u64)?;
-    number(rt, time.low)?;
-    number(rt, time.high)?;
-    number(rt, b.epoch_marker as u64)
+    number(rt, reference.round)
 }
 
-fn show_fixed(rt: &impl Print, kind: u8, s: &[u8]) -> io::Result<()> {
-    if kind == 1 {
-        let d = types::decode_reference(s, 0);
-        number(rt, d.reference.authority)?;
-        number(rt, d.reference.round)?;
-    }
-    if kind == 2 {
-        let d = types::decode_locator(s, 0);
-        number(rt, d.locator.block.authority)?;
-        number(rt, d.locator.block.round)?;
-        number(rt, d.locator.offset)?;
-    }
-    if kind == 3 {
-        let d = types::decode_range(s, 0);
-        number(rt, d.range.block.authority)?;
-        number(rt, d.range.offset_start_inclusive)?;
-        number(rt, d.range.offset_end_exclusive)?;
-    }
-    Ok(())
+fn show_block(rt: &impl Print, block: StatementBlock) -> io::Result<()> {
+    let time = block.meta_creation_time_ns;
+    show_reference(rt, block.reference)?;
+    number(rt, block.includes.left as u64)?;
+    number(rt, block.statements.left as u64)?;
+    number(rt, time.low)?;
+    number(rt, time.high)?;
+    number(rt, u64::from(block.epoch_marker))
 }
 
 // The values of some fields, so that two fields exchanged on both ways would show.
 fn show_fields(rt: &impl Print, kind: u8, s: &[u8]) -> io::Result<()> {
-    show_fixed(rt, kind, s)?;
-    if kind == 5 {
-        show_block(rt, s, 0)?;
+    if kind == 1
+        && let Some((reference, _)) = BlockReference::decode(s, 0)
+    {
+        show_reference(rt, reference)?;
     }
-    if kind == 7 {
-        let d = commits::decode_own_block(s, 0);
-        number(rt, d.own_block.next_entry.0)?;
-        show_block(rt, s, 8)?;
+    if kind == 2
+        && let Some((locator, _)) = TransactionLocator::decode(s, 0)
+    {
+        show_reference(rt, locator.block)?;
+        number(rt, locator.offset)?;
+    }
+    if kind == 3
+        && let Some((range, _)) = TransactionLocatorRange::decode(s, 0)
+    {
+        number(rt, range.block.authority)?;
+        number(rt, range.offset_start_inclusive)?;
+        number(rt, range.offset_end_exclusive)?;
+    }
+    if kind == 5
+        && let Some((block, _)) = StatementBlock::decode(s, 0)
+    {
+        show_block(rt, block)?;
+    }
+    if kind == 7
+        && let Some((own_block, _)) = OwnBlockData::decode(s, 0)
+    {
+        number(rt, own_block.next_entry.0)?;
+        show_block(rt, own_block.block)?;
     }
     Ok(())
 }
@@ -286,16 +210,19 @@ fn show(rt: &impl Print, kind: u8, s: &mut [u8]) -> io::Result<()> {
     print!(rt; "{kind}")?;
     number(rt, s.len() as u64)?;
     number(rt, t.accepted)?;
-    hex(rt, !t.register as u64, 8)?;
+    hex(rt, u64::from(!t.register), 8)?;
     show_fields(rt, kind, s)?;
     end_line(rt)
 }
 
-// A record's head: kind and length.
+fn byte_at(s: &[u8], i: usize) -> u8 {
+    s.get(i).copied().unwrap_or(0)
+}
+
+// The place behind a record, whose head is its kind and its length.
 fn record_end(s: &[u8], at: usize) -> usize {
-    let low = byte_at(s, plus(at, 1)) as usize;
-    let high = byte_at(s, plus(at, 2)) as usize;
-    plus(at, 3 + low + 256 * high)
+    let length = u16::from_le_bytes([byte_at(s, plus(at, 1)), byte_at(s, plus(at, 2))]);
+    plus(at, 3 + usize::from(length))
 }
 
 // The record at `at`, where it is whole, and the place behind it; otherwise the end.
@@ -303,24 +230,21 @@ fn show_at(rt: &impl Print, s: &mut [u8], at: usize) -> io::Result<usize> {
     let kind = byte_at(s, at);
     let start = plus(at, 3);
     let end = record_end(s, at);
-    if start <= end {
-        if end <= s.len() {
-            show(rt, kind, &mut s[start..end])?;
-            return Ok(end);
-        }
+    if start <= end && end <= s.len() {
+        show(rt, kind, &mut s[start..end])?;
+        return Ok(end);
     }
     Ok(s.len())
 }
 
+// Each record; there are fewer than bytes.
 fn show_all(rt: &impl Print, s: &mut [u8]) -> io::Result<()> {
     let mut at = 0;
-    let mut turns = s.len();
-    while turns > 0 {
+    for _ in 0..s.len() {
         if s.len() <= at {
-            return Ok(());
+            break;
         }
         at = show_at(rt, s, at)?;
-        turns -= 1;
     }
     Ok(())
 }

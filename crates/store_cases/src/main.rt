@@ -15,16 +15,17 @@
 
 ghost use Rattle.std.specs.Prelude.{◌≤◌};
 
+use bincode::Decode;
 use case_lines::{
-    behind, blank, bytes_at, end_line, feed_reference, feed_table, feed_word, hex, number,
-    number_at, plus, show_place, word_at,
+    behind, bytes_at, end_line, feed_reference, feed_table, feed_word, hex, number, number_at,
+    plus, show_place, word_at,
 };
 use cleanup::Cleaned;
+use crypto::BlockDigest;
 use exists::Answer;
 use index::StoreSummary;
 use insert::Inserted;
 use lookup::Looked;
-use state::Span;
 use std::io;
 use store::BlockStore;
 use types::{BlockReference, TransactionLocator};
@@ -39,18 +40,20 @@ pub struct Setting {
 }
 
 fn with_store(t: Setting, store: BlockStore) -> Setting {
-    Setting {
-        k: t.k,
-        used: t.used,
-        store,
-    }
+    Setting { store, ..t }
 }
 
 // ---- Reading
 
 fn reference_at(s: &[u8], at: usize) -> BlockReference {
-    let d = types::decode_reference(s, at);
-    d.reference
+    let Some((reference, _)) = BlockReference::decode(s, at) else {
+        return BlockReference {
+            authority: 0,
+            round: 0,
+            digest: BlockDigest([0; 32]),
+        };
+    };
+    reference
 }
 
 // The place behind the words whose number stands at `at`.
@@ -76,10 +79,9 @@ fn show_table(rt: &impl Print, t: &[u64]) -> io::Result<()> {
 // The highest round, the last seen rounds and the own reference.
 fn show_summary(rt: &impl Print, s: StoreSummary) -> io::Result<()> {
     let seen = s.last_seen_by_authority;
-    let last = s.last_own_block;
     let one = feed_word(0xffff_ffff, s.highest_round);
     let two = feed_table(one, &seen);
-    let three = feed_reference(two, last.there, last.reference);
+    let three = feed_reference(two, s.last_own_block);
     hex(rt, !three as u64, 8)
 }
 
@@ -114,11 +116,9 @@ fn show_looked(rt: &impl Print, r: Looked, out: &[u64]) -> io::Result<()> {
     show_table(rt, out)?;
     end_line(rt)?;
     let mut at = 0;
-    let mut i = 0;
-    while i < r.rows {
+    for _ in 0..r.rows {
         show_row(rt, out, at)?;
         at = plus(at, 8);
-        i += 1;
     }
     Ok(())
 }
@@ -130,13 +130,6 @@ fn show_answer(rt: &impl Print, a: Answer) -> io::Result<()> {
         Answer::Refused(n) => number(rt, n as u64)?,
     }
     end_line(rt)
-}
-
-fn show_span(rt: &impl Print, image: &[u8], s: Span) -> io::Result<()> {
-    match s {
-        Span::Nothing => show_place(rt, image, false, 0, 0),
-        Span::At(at, len) => show_place(rt, image, true, at, len),
-    }
 }
 
 // ---- Calls that change the store
@@ -378,11 +371,10 @@ fn do_transaction(
         offset: number_at(s, plus(at, 56)),
     };
     let r = transaction::get_transaction(t.k, image, t.used, t.store, index, locator);
-    let share = r.share;
     let now = with_store(t, r.store);
     text(rt, b"get_transaction")?;
     number(rt, r.number as u64)?;
-    show_span(rt, image, share)?;
+    show_place(rt, image, r.share)?;
     number(rt, loads_of(now))?;
     end_line(rt)?;
     Ok(now)
@@ -420,25 +412,18 @@ pub struct Step {
 fn load_words(s: &[u8], at: usize, t: &mut [u64]) {
     let n = number_at(s, at);
     let mut place = plus(at, 8);
-    let mut i = 0;
-    while i < t.len() {
+    for (i, word) in t.iter_mut().enumerate() {
         if n <= i as u64 {
             return;
         }
-        t[i] = number_at(s, place);
+        *word = number_at(s, place);
         place = plus(place, 8);
-        i += 1;
     }
 }
 
 fn load_bytes(bytes: &[u8], image: &mut [u8]) {
-    let mut i = 0;
-    while i < image.len() {
-        if bytes.len() <= i {
-            return;
-        }
-        image[i] = bytes[i];
-        i += 1;
+    for (byte, given) in image.iter_mut().zip(bytes) {
+        *byte = *given;
     }
 }
 
@@ -625,10 +610,8 @@ fn run_calls(
         setting: t,
         at: plus(at, 8),
     };
-    let mut i = 0;
-    while i < count {
+    for _ in 0..count {
         step = call(rt, step.setting, s, step.at, image, index, out, work)?;
-        i += 1;
     }
     Ok(step.at)
 }
@@ -681,7 +664,7 @@ fn lend(
 }
 
 // The case at `at`, and the place behind it.
-fn show_case(rt: &impl Print, s: &[u8], at: usize) -> io::Result<usize> {
+fn show_case(rt: &HostRuntime, s: &[u8], at: usize) -> io::Result<usize> {
     let mut image = [0u8; 16384];
     let mut index = [7u64; 512];
     let mut out = [7u64; 512];
@@ -697,21 +680,6 @@ fn show_case(rt: &impl Print, s: &[u8], at: usize) -> io::Result<usize> {
     )
 }
 
-fn show_all(rt: &impl Print, s: &[u8]) -> io::Result<()> {
-    let count = number_at(s, 0);
-    let mut at = 8;
-    let mut i = 0;
-    while i < count {
-        i += 1;
-        print!(rt; "{i}")?;
-        blank(rt)?;
-        at = show_case(rt, s, at)?;
-    }
-    Ok(())
-}
-
 fn main(rt: HostRuntime) -> io::Result<()> {
-    let mut input = [0u8; 524288];
-    let n = case_lines::read_full(&mut rt.stdin(), &mut input)?;
-    show_all(&rt, &input[..n])
+    case_lines::run_cases::<524288, _>(&rt, show_case)
 }

@@ -3,16 +3,9 @@
 // written from document 01.
 #![tactic(auto)]
 
-ghost use Rattle.std.specs.Prelude.{◌≤◌, length};
-
-use case_lines::{end_line, number};
+use case_lines::{blank, end_line, number, plus, refused, stop_word};
 use std::io;
-use wal::{Appended, Found, Stop, WalPosition, WalWriter, Walked};
-
-fn refused(rt: &impl Print, n: u8) -> io::Result<()> {
-    print!(rt; " REFUSED")?;
-    number(rt, n as u64)
-}
+use wal::{Appended, Found, WalPosition, WalWriter, Walked};
 
 fn show_appended(rt: &impl Print, a: Appended) -> io::Result<()> {
     print!(rt; "append")?;
@@ -31,28 +24,21 @@ fn show_found(rt: &impl Print, f: Found) -> io::Result<()> {
     match f {
         Found::Entry(e) => {
             number(rt, e.position.0)?;
-            number(rt, e.tag as u64)?;
+            number(rt, u64::from(e.tag))?;
             number(rt, e.len)?;
-            number(rt, e.checksum as u64)?;
+            number(rt, u64::from(e.checksum))?;
         }
         Found::Refused(n) => refused(rt, n)?,
     }
     end_line(rt)
 }
 
-fn word(rt: &impl Print, stop: Stop) -> io::Result<()> {
-    match stop {
-        Stop::End => print!(rt; " END"),
-        Stop::Zeros => print!(rt; " ZEROS"),
-        Stop::Torn => print!(rt; " TORN"),
-    }
-}
-
 fn show_walked(rt: &impl Print, w: Walked) -> io::Result<()> {
     print!(rt; "walk")?;
     match w {
         Walked::Stopped(stop, end, unread) => {
-            word(rt, stop)?;
+            blank(rt)?;
+            stop_word(rt, stop)?;
             number(rt, end.0)?;
             number(rt, unread)?;
         }
@@ -80,8 +66,7 @@ fn show_calls(
 }
 
 fn put(writer: WalWriter, image: &mut [u8], tag: u32, payload: &[u8]) -> WalWriter {
-    let a = wal::append(writer, image, tag, payload);
-    match a {
+    match wal::append(writer, image, tag, payload) {
         Appended::At(_, next) => next,
         Appended::Refused(_) => writer,
     }
@@ -144,14 +129,9 @@ fn header_rows(rt: &impl Print) -> io::Result<()> {
 
 // Rows 16 and 17, and what is there, in the first log.
 fn read_rows(rt: &impl Print, image: &[u8], used: u64) -> io::Result<()> {
-    show_found(rt, wal::read(6, image, used, WalPosition(0)))?;
-    show_found(rt, wal::read(6, image, used, WalPosition(25)))?;
-    show_found(rt, wal::read(6, image, used, WalPosition(41)))?;
-    show_found(rt, wal::read(6, image, used, WalPosition(49)))?;
-    show_found(rt, wal::read(6, image, used, WalPosition(64)))?;
-    show_found(rt, wal::read(6, image, used, WalPosition(80)))?;
-    show_found(rt, wal::read(6, image, used, WalPosition(88)))?;
-    show_found(rt, wal::read(6, image, used, WalPosition(89)))?;
+    for position in [0, 25, 41, 49, 64, 80, 88, 89] {
+        show_found(rt, wal::read(6, image, used, WalPosition(position)))?;
+    }
     show_found(rt, wal::read(6, image, used, WalPosition::MAX))
 }
 
@@ -193,24 +173,16 @@ fn damaged_headers(rt: &impl Print) -> io::Result<()> {
     show_damaged(rt, &image, used, 64)?;
     image[72] = 0;
     show_damaged(rt, &image, used, 64)?;
-    image[64] = 0;
-    image[65] = 0;
-    image[66] = 0;
-    image[67] = 0;
+    for i in 64..68 {
+        image[i] = 0;
+    }
     show_damaged(rt, &image, used, 64)
-}
-
-fn within(end: usize, text: &[u8]) -> usize
-    ensures { result ≤ length text.now }
-{
-    if end < text.len() { end } else { text.len() }
 }
 
 fn show_listing(rt: &impl Print, input: &[u8]) -> io::Result<()> {
     let mut text = [0u8; 512];
-    let end = listing::list(input, &mut text);
-    let shown = within(end, &text);
-    rt.write_all(&text[..shown])
+    let end = listing::list(input, &mut text).min(text.len());
+    rt.write_all(&text[..end])
 }
 
 fn show_cut(rt: &impl Print, c: usize, input: &[u8]) -> io::Result<()> {
@@ -222,42 +194,21 @@ fn show_cut(rt: &impl Print, c: usize, input: &[u8]) -> io::Result<()> {
 
 // The listing of each beginning of the input that holds the exponent.
 fn show_cuts(rt: &impl Print, input: &[u8]) -> io::Result<()> {
-    let mut end = 1;
-    while end <= input.len() {
-        show_cut(rt, end - 1, &input[..end])?;
-        end += 1;
+    for cut in 0..input.len() {
+        show_cut(rt, cut, &input[..cut + 1])?;
     }
     Ok(())
 }
 
-// An input of the listing: the exponent, and behind it the image.
-fn input_byte(image: &[u8], i: usize) -> u8 {
-    if i == 0 {
-        return 6;
-    }
-    if i <= image.len() { image[i - 1] } else { 0 }
-}
-
-fn fill_input(image: &[u8], input: &mut [u8]) {
-    let mut i = 0;
-    while i < input.len() {
-        input[i] = input_byte(image, i);
-        i += 1;
-    }
-}
-
-fn show_log(rt: &impl Print, image: &[u8], used: u64) -> io::Result<()> {
+// An input of the listing: the exponent, and behind it the image, up to each place within used.
+fn show_log(rt: &impl Print, image: &[u8; 128], used: u64) -> io::Result<()> {
     let mut input = [0u8; 129];
-    fill_input(image, &mut input);
-    show_begun(rt, &input, used)
-}
-
-fn show_begun(rt: &impl Print, input: &[u8], used: u64) -> io::Result<()> {
-    let end = within(used as usize, input);
-    if end < input.len() {
-        show_cuts(rt, &input[..end + 1])?;
+    input[0] = 6;
+    input[1..].copy_from_slice(image);
+    match input.get(..plus(used as usize, 1)) {
+        Some(begun) => show_cuts(rt, begun),
+        None => Ok(()),
     }
-    Ok(())
 }
 
 fn cuts(rt: &impl Print) -> io::Result<()> {

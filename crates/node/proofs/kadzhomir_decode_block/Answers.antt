@@ -2,4 +2,4 @@
 use Rattle.node.proofs.kadzhomir_decode_block.Goals as goal
 
 pub returns : goal.returns
-returns c = rw c.decode_block-d.ensures at c.put_block.ensures
+returns c = rw c.decode-decoded.ensures at c.put_block.ensures

@@ -2,4 +2,4 @@
 use Rattle.node.proofs.kadzhomir_decode_commit.Goals as goal
 
 pub returns : goal.returns
-returns c = rw c.decode_commit-d.ensures at c.put_commit.ensures
+returns c = rw c.decode-decoded.ensures at c.put_commit.ensures

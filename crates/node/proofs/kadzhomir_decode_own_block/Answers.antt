@@ -2,4 +2,4 @@
 use Rattle.node.proofs.kadzhomir_decode_own_block.Goals as goal
 
 pub returns : goal.returns
-returns c = rw c.decode_own_block-d.ensures at c.put_own_block.ensures
+returns c = rw c.decode-decoded.ensures at c.put_own_block.ensures

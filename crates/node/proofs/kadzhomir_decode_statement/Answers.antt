@@ -2,4 +2,4 @@
 use Rattle.node.proofs.kadzhomir_decode_statement.Goals as goal
 
 pub returns : goal.returns
-returns c = rw c.decode_statement-d.ensures at c.put_statement.ensures
+returns c = rw c.decode-decoded.ensures at c.put_statement.ensures

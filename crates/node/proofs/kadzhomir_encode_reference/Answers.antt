@@ -3,4 +3,4 @@ use Rattle.node_given.proofs.Encoding.{encodes_words}
 use Rattle.node.proofs.kadzhomir_encode_reference.Goals as goal
 
 pub returns : goal.returns
-returns c = encodes_words (rw c.reference_at-x.ensures at c.encode_reference-encoded.ensures) c.put_encoded.ensures
+returns c = encodes_words (rw c.reference_at-x.ensures at c.encode_record-encoded.ensures) c.put_encoded.ensures

@@ -2,4 +2,4 @@
 use Rattle.node.proofs.kadzhomir_include_at.Goals as goal
 
 pub returns : goal.returns
-returns c = rw c.include_at-d.ensures at c.put_decoded.ensures
+returns c = rw c.include_at-decoded.ensures at c.put_decoded.ensures

@@ -3,8 +3,8 @@ use Prim.Native.Nat.{◌-◌}
 use Rattle.wal.proofs.Steps.{Walking}
 use Rattle.reader_cases.proofs.show_steps.Given as goal
 
-abbrev pub invariant-loop-step : goal.invariant-loop-step
-invariant-loop-step g l = Walking l.k l.image l.used l.e.0
+abbrev pub invariant-loop-e : goal.invariant-loop-e
+invariant-loop-e g l = Walking l.k l.image l.used l.e.0
 
-abbrev pub decreases-loop-step : goal.decreases-loop-step
-decreases-loop-step g l = l.used - l.e.0
+abbrev pub decreases-loop-e : goal.decreases-loop-e
+decreases-loop-e g l = l.used - l.e.0

@@ -10,6 +10,7 @@ use Rattle.laws.specs.Pick.{pick}
 use Rattle.laws.specs.Bytes.{bytes_at}
 use Rattle.laws.specs.Parse.{Res, bad, answer}
 use Rattle.laws.specs.Parse as parse
+use Rattle.std.proofs.Common.{Ok}
 use Rattle.laws.proofs.Written.{length_bytes_at}
 use Rattle.types.specs.Records.{BlockValue, block}
 use Rattle.commits.specs.Records.{OwnBlockValue, own_block}
@@ -18,7 +19,7 @@ use Rattle.wal_reader.specs.Read.{found, read_at}
 use Rattle.wal_reader.specs.Answers.{entry_of, found_of}
 use Rattle.block_reader.specs.declared.ReadBlock.{ReadBlock}
 use Rattle.block_reader.specs.Reading.{BlockRead, refused, got, plain_block, own_block_at, block_in, block_at, read_of}
-use Rattle.block_reader.proofs.Reading.{own_eight, read_within, read_found, block_at_numbered, told_got}
+use Rattle.block_reader.proofs.Reading.{own_eight, read_within, read_found, told_got}
 
 -- ---- What holds of every refusal, and of the block of every payload that lies in the image, holds of what is read
 
@@ -66,11 +67,11 @@ abbrev EndsBy : ℕ → BlockRead → Type 0
 EndsBy m (refused n) = Unit {0}
 EndsBy m (got r at n) = at + n ≤ m
 
-module _ (k : ℕ) (s : List ℕ) (used p : ℕ) {b : ReadBlock} (is : b ≡ read_of (block_at k s used p)) (none : b.number ≡ 0) where
-  pub block_got : block_at k s used p ≡ got b.reference b.at b.len
-  block_got = told_got (block_at k s used p) (block_at_numbered k s used p) is none
+module _ (k : ℕ) (s : List ℕ) (used p : ℕ) {b : ReadBlock} (is : Ok b ≡ read_of (block_at k s used p)) where
+  pub block_got : block_at k s used p ≡ got b.reference b.bytes.at b.bytes.left
+  block_got = told_got (block_at k s used p) is
 
-  pub block_within : b.at + b.len ≤ length s
+  pub block_within : b.bytes.at + b.bytes.left ≤ length s
   block_within =
       subst (EndsBy (length s)) block_got
       (read_holds (EndsBy (length s)) (λ n. tt) s (λ at n h b e i. h)

@@ -11,7 +11,12 @@ use Rattle.laws.specs.Pick.{pick}
 use Rattle.laws.specs.Bytes.{bytes_at}
 use Rattle.laws.specs.Parse.{Res, bad, answer}
 use Rattle.laws.proofs.Parses.{then_found, number_found}
-use Rattle.std.proofs.Common.{Some, None}
+use Rattle.std.proofs.Common.{Some, None, Ok, Err}
+use Rattle.refusal.specs.declared.Refusal.{Refusal}
+use Rattle.refusal.specs.declared.Refusal.TheVariants.{Tag, Block, OwnBlock}
+use Rattle.refusal.specs.Refusals.{refusal_of}
+use Rattle.refusal.specs.Tabled.{Tabled}
+use Rattle.refusal.proofs.Numbers.{tabled}
 use Rattle.bincode.specs.Answers.{decoded_as}
 use Rattle.bincode.proofs.Found.{told_none, told_as}
 use Rattle.types.specs.Records.{block}
@@ -27,10 +32,8 @@ use Rattle.wal_reader.specs.Read as read
 use Rattle.wal_reader.specs.Read.{found, read_at}
 use Rattle.wal_reader.specs.Answers.{entry_of, payload_of, found_of, read_answer}
 use Rattle.wal_reader.specs.declared.WalEntry.{WalEntry}
-use Rattle.wal_reader.specs.declared.Found.TheVariants.{Entry as Found-as-Entry, Refused as Found-as-Refused}
 use Rattle.wal_position.proofs.Checks.{Sound, passed_sound}
-use Rattle.wal_reader.proofs.ReadAnswers.{found_read, checked_whole}
-use Rattle.wal_reader.proofs.Looks.{Numbered, is_past, is_region_full, is_no_header, is_blank, is_damaged, is_cut, is_whole, look_numbered}
+use Rattle.wal_reader.proofs.ReadAnswers.{TabledRead, read_no_tabled, read_at_tabled, found_read, checked_whole}
 use Rattle.wal.proofs.Walks.{Listed, whole_listed}
 use Rattle.wal.proofs.Steps.{payload_named}
 use Rattle.block_reader.specs.declared.ReadBlock.{ReadBlock}
@@ -90,21 +93,23 @@ module _ (a : Entry) where
 -- ---- A read
 
 -- what a read that was refused tells
-refused_read : (x : read.Read) {n : ℕ} → Found-as-Refused n ≡ found_of x → x ≡ read.Read.refused n
+refused_read : (x : read.Read) {r : Refusal} → Err r ≡ found_of x → (n : ℕ) × (x ≡ read.Read.refused n) × (r ≡ refusal_of n)
 unfolding found_of
-refused_read (found a) h = let z : ◌≡◌ {A = ℕ} 0 1 = cc in absurd (omega arith)
-refused_read (read.Read.refused m) h = cc
+refused_read (found a) h = absurd (cc)
+refused_read (read.Read.refused n) h = (n, refl, cc)
 
 module _ (k : ℕ) (s : List ℕ) (used p : ℕ) where
   entry_found : {a : Entry} → read_at k s used p ≡ found a → block_at k s used p ≡ block_in a
   unfolding block_at
   entry_found is = rw is
 
-  pub read_refused : {n : ℕ} → Found-as-Refused n ≡ read_answer k s used p → refused n ≡ block_at k s used p
-  unfolding block_at
-  read_refused h = sym (rw (refused_read (read_at k s used p) h))
+  pub read_refused : {r : Refusal} → Err r ≡ read_answer k s used p → Err r ≡ read_of (block_at k s used p)
+  unfolding block_at read_of
+  read_refused h =
+      let at = refused_read (read_at k s used p) h in
+      rw at.1 (ap Err at.2)
 
-  module _ {e : WalEntry} (h : Found-as-Entry e ≡ read_answer k s used p) where
+  module _ {e : WalEntry} (h : Ok e ≡ read_answer k s used p) where
     -- the entry lies in the image
     pub read_within : (e.position.0 + 16 + e.len ≤ length s) × (e.position.0 + 16 + e.len ≤ 2 ^ 40)
     unfolding entry_of end_of
@@ -130,84 +135,50 @@ module _ (k : ℕ) (s : List ℕ) (used p : ℕ) where
         ∙ ap (λ (l : List ℕ). block_in (record { start = at.0.start; tag = at.0.tag; payload = l })) named
         ∙ sym (entry_found at.1)
 
--- ---- A refusal has a number
+-- ---- A refusal has a number of the table
 
--- no refusal is numbered 0
-pub data NumberedBlock : BlockRead → Type 0 where
-  is_refused : {n : ℕ} → 0 < n → NumberedBlock (refused n)
-  is_got : {r : _} {at n : ℕ} → NumberedBlock (got r at n)
+pub data TabledBlock : BlockRead → Type 0 where
+  is_refused : {n : ℕ} → Tabled n → TabledBlock (refused n)
+  is_got : {r : _} {at n : ℕ} → TabledBlock (got r at n)
 
-pub refused_number : {n : ℕ} → NumberedBlock (refused n) → 0 < n
-refused_number (is_refused h) = h
+pub refused_tabled : {n : ℕ} → TabledBlock (refused n) → Tabled n
+refused_tabled (is_refused h) = h
 
-either : (t : Bool) {a b : BlockRead} → NumberedBlock a → NumberedBlock b → NumberedBlock (pick t a b)
+either : (t : Bool) {a b : BlockRead} → TabledBlock a → TabledBlock b → TabledBlock (pick t a b)
 unfolding pick
 either true h l = h
 either false h l = l
 
-answer_numbered : {A : Type 0} (n : ℕ) (some : A → ℕ → BlockRead) → 0 < n → ((a : A) (e : ℕ) → NumberedBlock (some a e)) → (x : Res A)
-    → NumberedBlock (answer (refused n) some x)
+answer_tabled : {A : Type 0} (n : ℕ) (some : A → ℕ → BlockRead) → Tabled n → ((a : A) (e : ℕ) → TabledBlock (some a e)) → (x : Res A)
+    → TabledBlock (answer (refused n) some x)
 unfolding answer
-answer_numbered n some h g bad = is_refused h
-answer_numbered n some h g (Res.got a e) = g a e
+answer_tabled n some h g bad = is_refused h
+answer_tabled n some h g (Res.got a e) = g a e
 
-block_numbered : (a : Entry) → NumberedBlock (block_in a)
+block_tabled : (a : Entry) → TabledBlock (block_in a)
 unfolding block_in plain_block own_block_at
-block_numbered a =
-    either (eqb a.tag 1) (answer_numbered 9 _ (lit< tt) (λ b e. is_got) (block a.payload 0))
-    (either (eqb a.tag 3) (answer_numbered 10 _ (lit< tt) (λ o e. is_got) (own_block a.payload 0)) (is_refused (lit< tt)))
+block_tabled a =
+    either (eqb a.tag 1) (answer_tabled 9 _ (tabled Block) (λ b e. is_got) (block a.payload 0))
+    (either (eqb a.tag 3) (answer_tabled 10 _ (tabled OwnBlock) (λ o e. is_got) (own_block a.payload 0)) (is_refused (tabled Tag)))
 
--- what a read comes to is numbered where its refusals are
-data NumberedRead : read.Read → Type 0 where
-  read_no : {n : ℕ} → 0 < n → NumberedRead (read.Read.refused n)
-  read_yes : {a : Entry} → NumberedRead (found a)
-
-look_read : {l : Look} → Numbered l → NumberedRead (read.read_of l)
-unfolding read.read_of
-look_read is_past = read_no (lit< tt)
-look_read is_region_full = read_no (lit< tt)
-look_read is_no_header = read_no (lit< tt)
-look_read is_blank = read_no (lit< tt)
-look_read (is_damaged h) = read_no h
-look_read is_cut = read_no (lit< tt)
-look_read is_whole = read_yes
-
-unless_numbered : (n : ℕ) {x : read.Read} → NumberedRead x → NumberedRead (unless n read.Read.refused x)
-unfolding unless
-unless_numbered zero h = h
-unless_numbered (suc n) h = read_no {n = suc n} (omega arith)
-
-from_numbered : (k : ℕ) (s : List ℕ) (used p : ℕ) (x : read.Read) → read_at k s used p ≡ x → NumberedRead x → NumberedBlock (block_at k s used p)
+from_tabled : (k : ℕ) (s : List ℕ) (used p : ℕ) (x : read.Read) → read_at k s used p ≡ x → TabledRead x → TabledBlock (block_at k s used p)
 unfolding block_at
-from_numbered k s used p (read.Read.refused n) is (read_no h) = rw is (is_refused h)
-from_numbered k s used p (found a) is read_yes = subst NumberedBlock (sym (entry_found k s used p is)) (block_numbered a)
+from_tabled k s used p (read.Read.refused n) is h = rw is (is_refused (read_no_tabled h))
+from_tabled k s used p (found a) is h = subst TabledBlock (sym (entry_found k s used p is)) (block_tabled a)
 
-read_numbered : (k : ℕ) (s : List ℕ) (used p : ℕ) → NumberedRead (read_at k s used p)
-unfolding read_at
-read_numbered k s used p = unless_numbered (log_check k used (length s)) (look_read (look_numbered k s used p))
-
-pub block_at_numbered : (k : ℕ) (s : List ℕ) (used p : ℕ) → NumberedBlock (block_at k s used p)
-block_at_numbered k s used p = from_numbered k s used p (read_at k s used p) refl (read_numbered k s used p)
+pub block_at_tabled : (k : ℕ) (s : List ℕ) (used p : ℕ) → TabledBlock (block_at k s used p)
+block_at_tabled k s used p = from_tabled k s used p (read_at k s used p) refl (read_at_tabled k s used p)
 
 -- ---- What a read told
 
-module _ (x : BlockRead) (numbered : NumberedBlock x) {b : ReadBlock} (is : b ≡ read_of x) where
-  pub told_refused : (b.number ≡ 0 → ⊥) → x ≡ refused b.number
-  unfolding read_of
-  told_refused nonzero = from x is
-    where
-      from : (x : BlockRead) → b ≡ read_of x → x ≡ refused b.number
-      from (refused n) is = ap refused (sym (ap (λ (b : ReadBlock). b.number) is))
-      from (got r at n) is = absurd (nonzero (ap (λ (b : ReadBlock). b.number) is))
+pub told_refused : (x : BlockRead) {r : Refusal} → Err r ≡ read_of x → (n : ℕ) × (x ≡ refused n) × (r ≡ refusal_of n)
+unfolding read_of
+told_refused (refused n) is = (n, refl, cc)
+told_refused (got r at n) is = absurd (cc)
 
-  pub told_got : b.number ≡ 0 → x ≡ got b.reference b.at b.len
-  unfolding read_of
-  told_got zero_number = from x numbered is
-    where
-      from : (x : BlockRead) → NumberedBlock x → b ≡ read_of x → x ≡ got b.reference b.at b.len
-      from (refused n) h is = absurd (omega (arith, refused_number h, ap (λ (b : ReadBlock). b.number) is))
-      from (got r at n) h is =
-          let e₁ : r ≡ b.reference = sym (ap (λ (b : ReadBlock). b.reference) is) in
-          let e₂ : at ≡ b.at = sym (ap (λ (b : ReadBlock). b.at) is) in
-          let e₃ : n ≡ b.len = sym (ap (λ (b : ReadBlock). b.len) is) in
-          cc
+pub told_got : (x : BlockRead) {b : ReadBlock} → Ok b ≡ read_of x → x ≡ got b.reference b.bytes.at b.bytes.left
+unfolding read_of
+told_got (refused n) is = absurd (cc)
+told_got (got r at n) {b} is =
+    let same : b ≡ record { reference = r; bytes = record { at = at; left = n } } = cc in
+    rw same

@@ -1,6 +1,8 @@
 -- Reading a block. Document 01, the order of checks: "A query .. for each block it reads, in answer order, a read's numbers, 8, and 9 or
 -- 10".
-use Rattle.std.specs.Prelude.{List, ℕ, ◌+◌, ◌-◌, eqb, length, replicate}
+use Rattle.std.specs.Prelude.{List, ℕ, ◌+◌, ◌-◌, eqb, length, Result, Ok, Err}
+use Rattle.refusal.specs.declared.Refusal.{Refusal}
+use Rattle.refusal.specs.Refusals.{refusal_of}
 use Rattle.laws.specs.Pick.{pick}
 use Rattle.laws.specs.Parse.{answer}
 use Rattle.types.specs.declared.BlockReference.{BlockReference}
@@ -37,11 +39,7 @@ block_at k s used p = from (read_at k s used p)
     from (read.Read.refused n) = refused n
     from (found a) = block_in a
 
--- stands beside a refusal's number
-abbrev pub zero_reference : BlockReference
-zero_reference = record { authority = 0; round = 0; digest = record { 0 = replicate 32 0 } }
-
 -- the answer of the call
-unfoldable pub read_of : BlockRead → ReadBlock
-read_of (refused n) = record { number = n; reference = zero_reference; at = 0; len = 0 }
-read_of (got r at n) = record { number = 0; reference = r; at = at; len = n }
+unfoldable pub read_of : BlockRead → Result ReadBlock Refusal
+read_of (refused n) = Err (refusal_of n)
+read_of (got r at n) = Ok (record { reference = r; bytes = record { at = at; left = n } })

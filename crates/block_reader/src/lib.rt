@@ -6,44 +6,27 @@
 #![tactic(auto)]
 
 ghost use Rattle.std.specs.Prelude.{◌≡◌, ◌+◌, ◌^◌, ◌≤◌, ◌<◌, length};
+ghost use Rattle.wal_position.specs.Logs.{of_log};
 ghost use Rattle.wal_reader.specs.Answers.{entry_named};
 ghost use Rattle.block_reader.specs.Reading.{plain_block, own_block_at, block_in, block_at, read_of};
-ghost use Rattle.block_reader.specs.Reading as reading;
 
-use bincode::Decode;
+use bincode::{Cursor, Decode};
 use blocks::StatementBlock;
 use commits::OwnBlockData;
-use crypto::BlockDigest;
+use refusal::Refusal;
 use types::BlockReference;
-use wal_position::WalPosition;
-use wal_reader::{Found, WalEntry};
+use wal_position::{Log, WalPosition};
+use wal_reader::WalEntry;
 
-// A block as it was read: its reference, and where its bytes stand; or a refusal's number.
+// A block as it was read: its reference, and its bytes in the image.
 #[derive(Clone, Copy)]
 pub struct ReadBlock {
-    pub number: u8,
     pub reference: BlockReference,
-    pub at: usize,
-    pub len: usize,
-}
-
-fn no_block(number: u8) -> ReadBlock
-    ensures { result ≡ read_of (reading.BlockRead.refused number) }
-{
-    ReadBlock {
-        number,
-        reference: BlockReference {
-            authority: 0,
-            round: 0,
-            digest: BlockDigest([0; 32]),
-        },
-        at: 0,
-        len: 0,
-    }
+    pub bytes: Cursor,
 }
 
 // The block of an entry that lies in the image.
-fn block_of(image: &[u8], entry: WalEntry) -> ReadBlock
+fn block_of(image: &[u8], entry: WalEntry) -> Result<ReadBlock, Refusal>
     requires { (entry.position.0 + 16 + entry.len ≤ length image.now)
         × (entry.position.0 + 16 + entry.len ≤ 2 ^ 40) }
     ensures { result ≡ read_of (block_in (entry_named image.now entry)) }
@@ -53,47 +36,47 @@ fn block_of(image: &[u8], entry: WalEntry) -> ReadBlock
     match entry.tag {
         1 => plain_block(&image[from..to], from),
         3 => own_block(&image[from..to], from),
-        _ => no_block(8),
+        _ => Err(Refusal::Tag),
     }
 }
 
 // The block of a tag 1 entry whose payload stands at `at`.
-fn plain_block(payload: &[u8], at: usize) -> ReadBlock
+fn plain_block(payload: &[u8], at: usize) -> Result<ReadBlock, Refusal>
     ensures { result ≡ read_of (plain_block at payload.now) }
 {
-    match StatementBlock::decode(payload, 0) {
-        None => no_block(9),
-        Some((block, _)) => ReadBlock {
-            number: 0,
-            reference: block.reference,
+    let Some((block, _)) = StatementBlock::decode(payload, 0) else {
+        return Err(Refusal::Block);
+    };
+    Ok(ReadBlock {
+        reference: block.reference,
+        bytes: Cursor {
             at,
-            len: payload.len(),
+            left: payload.len(),
         },
-    }
+    })
 }
 
 // The block of a tag 3 entry whose payload stands at `at`: behind its next entry.
-fn own_block(payload: &[u8], at: usize) -> ReadBlock
+fn own_block(payload: &[u8], at: usize) -> Result<ReadBlock, Refusal>
     requires { at < 2 ^ 62 }
     ensures { result ≡ read_of (own_block_at at payload.now) }
 {
-    match OwnBlockData::decode(payload, 0) {
-        None => no_block(10),
-        Some((own_block, _)) => ReadBlock {
-            number: 0,
-            reference: own_block.block.reference,
+    let Some((own_block, _)) = OwnBlockData::decode(payload, 0) else {
+        return Err(Refusal::OwnBlock);
+    };
+    Ok(ReadBlock {
+        reference: own_block.block.reference,
+        bytes: Cursor {
             at: at + 8,
-            len: payload.len() - 8,
+            left: payload.len() - 8,
         },
-    }
+    })
 }
 
 // Reads the block at a position (BlockStore, read_index).
-pub fn read_block(k: u64, image: &[u8], used: u64, position: WalPosition) -> ReadBlock
-    ensures { result ≡ read_of (block_at k image.now used position.0) }
+pub fn read_block(log: &Log<'_>, position: WalPosition) -> Result<ReadBlock, Refusal>
+    ensures { result ≡ read_of (of_log block_at log.now position.0) }
 {
-    match wal_reader::read(k, image, used, position) {
-        Found::Refused(number) => no_block(number),
-        Found::Entry(entry) => block_of(image, entry),
-    }
+    let entry = wal_reader::read(log, position)?;
+    block_of(log.image, entry)
 }

@@ -5,20 +5,18 @@
 #![tactic(auto)]
 
 ghost use Rattle.std.specs.Prelude.{◌≡◌};
+ghost use Rattle.refusal.specs.Refusals.{checked};
 ghost use Rattle.committee.specs.Committee.{committee_check};
 
+use refusal::Refusal;
+
 // The check 18, of a committee's size and the own authority alone.
-pub fn check_committee(size: u64, own: u64) -> u8
-    ensures { result ≡ committee_check size own }
+#[tactic(auto, unfolding(crate::specs::Committee::committee_check, refusal::specs::Refusals::checked, refusal::specs::Refusals::refusal_of, laws::specs::Pick::pick))]
+pub fn check_committee(size: u64, own: u64) -> Result<(), Refusal>
+    ensures { result ≡ checked (committee_check size own) }
 {
-    if size < 1 {
-        return 18;
+    if size == 0 || 128 < size || size <= own {
+        return Err(Refusal::Store);
     }
-    if 128 < size {
-        return 18;
-    }
-    if own < size {
-        return 0;
-    }
-    18
+    Ok(())
 }

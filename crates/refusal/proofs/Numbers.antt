@@ -1,7 +1,7 @@
 -- Laws of the refusals' numbers. Assumes nothing.
 use mathlib.Core.Logic.{◌⊎◌, inl, inr}
 use mathlib.Core.Path.{◌≡◌, refl, sym, ap, ◌∙◌}
-use Prim.Native.Nat.{ℕ, zero, suc, ◌<◌}
+use Prim.Native.Nat.{ℕ, zero, suc, ◌≤◌, ◌<◌}
 use native.Mathlib.Omega.{arith}
 use Rattle.std.specs.Prelude.{Result}
 use Rattle.std.specs.Result.{IsErr, IsErrAnd}
@@ -11,7 +11,7 @@ use Rattle.laws.specs.Pick.{pick}
 use Rattle.refusal.specs.declared.Refusal.{Refusal}
 use Rattle.refusal.specs.declared.Refusal.TheVariants.{RegionExponent, Used, EntryTooLarge, ImageFull, ChecksumWithoutLength, Length, Checksum, Tag, Block, OwnBlock, Payload, Commit, Authority, SecondOwnBlock, Rows, NoEntry, PastUsed, Store, AfterRound}
 use Rattle.refusal.specs.Tabled.{Tabled}
-use Rattle.refusal.specs.Refusals.{number, refusal_of, checked}
+use Rattle.refusal.specs.Refusals.{number, number_of, refusal_of, checked}
 
 -- each refusal is the one with its number
 pub of_number : (r : Refusal) → refusal_of (number r) ≡ r
@@ -79,6 +79,27 @@ positive_number PastUsed = omega arith
 positive_number Store = omega arith
 positive_number AfterRound = omega arith
 
+pub number_most : (r : Refusal) → number r ≤ 19
+number_most RegionExponent = omega arith
+number_most Used = omega arith
+number_most EntryTooLarge = omega arith
+number_most ImageFull = omega arith
+number_most ChecksumWithoutLength = omega arith
+number_most Length = omega arith
+number_most Checksum = omega arith
+number_most Tag = omega arith
+number_most Block = omega arith
+number_most OwnBlock = omega arith
+number_most Payload = omega arith
+number_most Commit = omega arith
+number_most Authority = omega arith
+number_most SecondOwnBlock = omega arith
+number_most Rows = omega arith
+number_most NoEntry = omega arith
+number_most PastUsed = omega arith
+number_most Store = omega arith
+number_most AfterRound = omega arith
+
 pub positive : {n : ℕ} → Tabled n → 0 < n
 positive t = omega (arith, positive_number t.refusal, t.same)
 
@@ -91,3 +112,9 @@ pub checked_cases : (n : ℕ) → (n ≡ 0) ⊎ ((r : Refusal) × (Err r ≡ che
 unfolding checked
 checked_cases zero = inl refl
 checked_cases (suc n) = inr (refusal_of (suc n), refl)
+
+-- the number that a check answers is its number
+pub checked_number : (n : ℕ) → ((n ≡ 0 → ⊥) → Tabled n) → number_of (checked n) ≡ n
+unfolding number_of checked
+checked_number zero t = refl
+checked_number (suc n) t = numbered (t (λ z. omega (arith, z)))

@@ -53,3 +53,12 @@ refusal_of n =
 unfoldable pub checked : ℕ → Result Unit Refusal
 checked zero = Ok tt
 checked (suc n) = Err (refusal_of (suc n))
+
+-- what a call answers that a check refuses with a number
+abbrev pub as_refused : {A : Type 0} → ℕ → Result A Refusal
+as_refused n = Err (refusal_of n)
+
+-- its number, 0 where it refuses nothing
+unfoldable pub number_of : {A : Type 0} → Result A Refusal → ℕ
+number_of (Ok x) = 0
+number_of (Err r) = number r

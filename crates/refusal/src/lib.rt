@@ -2,7 +2,7 @@
 #![tactic(auto)]
 
 ghost use Rattle.std.specs.Prelude.{◌≡◌};
-ghost use Rattle.refusal.specs.Refusals.{number};
+ghost use Rattle.refusal.specs.Refusals.{number, number_of};
 
 // Each with the number of its row in the table.
 #[derive(Clone, Copy, Debug, PartialEq, Eq)]
@@ -52,5 +52,16 @@ impl Refusal {
         ensures { result ≡ number self }
     {
         self as u8
+    }
+}
+
+// The number that a call answers: 0 where it is not refused.
+#[tactic(auto, unfolding(crate::specs::Refusals::number_of))]
+pub fn number_of<T>(answer: &Result<T, Refusal>) -> u8
+    ensures { result ≡ number_of answer.now }
+{
+    match answer {
+        Ok(_) => 0,
+        Err(refusal) => refusal.number(),
     }
 }

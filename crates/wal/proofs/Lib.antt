@@ -1,3 +1,3 @@
 pub mod Walks
-pub mod Steps
 pub mod Prefixes
+pub mod Steps

@@ -1,22 +1,23 @@
 -- `block_reader::read_block` meets its contract: an entry that a read finds lies in the image. Assumes nothing.
-use mathlib.Core.Path.{sym, ap, ◌∙◌}
+use mathlib.Core.Path.{ap, ◌∙◌}
+use Rattle.refusal.proofs.Numbers.{handed_on}
 use Rattle.block_reader.specs.Reading.{read_of}
 use Rattle.block_reader.proofs.Reading.{read_refused, read_within, read_found}
 use Rattle.block_reader.proofs.read_block.Goals as goal
 
+pub returns-in_err-entry : goal.returns-in_err-entry
+returns-in_err-entry c =
+    let log = c.args.log.now in
+    handed_on c.from_residual.result c.from_residual.ensures
+    ∙ read_refused log.exponent log.image.now log.used c.args.position.0 c.in_err-entry.ensures
+
 pub block_of-requires : goal.block_of-requires
 block_of-requires c =
-    let a = c.args in
-    read_within a.k a.image.now a.used a.position.0 (sym c.in-Entry.is ∙ c.read.ensures)
+    let log = c.args.log.now in
+    read_within log.exponent log.image.now log.used c.args.position.0 c.in_ok-entry.ensures
 
-pub returns-in-Refused : goal.returns-in-Refused
-returns-in-Refused c =
-    let a = c.args in
-    c.no_block.ensures
-    ∙ ap read_of (read_refused a.k a.image.now a.used a.position.0 (sym c.in-Refused.is ∙ c.read.ensures))
-
-pub returns-in-Entry : goal.returns-in-Entry
-returns-in-Entry c =
-    let a = c.args in
+pub returns : goal.returns
+returns c =
+    let log = c.args.log.now in
     c.block_of.ensures
-    ∙ ap read_of (read_found a.k a.image.now a.used a.position.0 (sym c.in-Entry.is ∙ c.read.ensures))
+    ∙ ap read_of (read_found log.exponent log.image.now log.used c.args.position.0 c.in_ok-entry.ensures)

@@ -8,7 +8,7 @@ use lib.ListN.{length, take, drop, get_or, length-drop}
 use lib.Seq.{take-add, drop_at, length-take-le}
 use Rattle.std.specs.Prelude.{Option, Some, None, Ok, Err}
 use Rattle.rows.specs.Rows.{rows_of, Ascending, below, place_of}
-use Rattle.rows.proofs.Rows.{length_rows_of, get_or_rows_of, first_row_at}
+use Rattle.rows.proofs.Rows.{length_rows_of}
 use Rattle.rows.proofs.Places.{at_place, gap_place, present_row}
 use Rattle.types.specs.declared.BlockReference.{BlockReference}
 use Rattle.index.specs.Keys.{key_words}
@@ -16,7 +16,7 @@ use Rattle.tables.proofs.Tables.{eights_rows_of}
 use Rattle.filters.specs.Filters.{keep, round_of, author_of, by_reference, by_round, by_author_round, own_after, rounds_after, among, others_after}
 use Rattle.filters.specs.Segments.{between, chosen, up_to, rounds_long}
 use Rattle.filters.proofs.Keeping.{keep_both, chosen_every, chosen_author, chosen_limited, between_part, length_between}
-use Rattle.filters.proofs.Segments.{absent_none, present_one, ascending_rising, round_key, up_to_within, up_to_all, up_to_below, above_segment, round_segment}
+use Rattle.filters.proofs.Segments.{absent_none, present_one, ascending_rising, round_key, up_to_within, above_segment, round_segment}
 use Rattle.filters.proofs.Rounds.{long_within, rounds_segment}
 
 -- the rows of a round, of an author or of all
@@ -25,21 +25,6 @@ of_round_and None round = by_round round
 of_round_and (Some author) round = by_author_round author round
 
 module _ (w : List ℕ) (count : ℕ) (fits : 8 * count ≤ length w) where
-  -- the first row above a round
-  pub above_last : (round : ℕ) → ((i : ℕ) → get_or w i 0 ≤ round) → count ≡ up_to round (rows_of count w)
-  above_last round words =
-      sym (length_rows_of count w)
-      ∙ sym (up_to_all round (rows_of count w) (λ i h.
-      let small : i < count = omega (arith, length_rows_of count w) in
-      let first : get_or (get_or (rows_of count w) i []) 0 0 ≡ get_or w (8 * i) 0 =
-      ap (λ (r : List ℕ). get_or r 0 0) (get_or_rows_of w i count small) ∙ first_row_at w i in
-      omega (arith, words (8 * i))))
-
-  pub above_key : (round : ℕ) → below (round_key (round + 1)) (rows_of count w) ≡ up_to round (rows_of count w)
-  above_key round =
-      let e : round + 1 ≡ suc round = omega arith in
-      ap (λ (x : ℕ). below (round_key x) (rows_of count w)) e ∙ sym (up_to_below round (rows_of count w) (eights_rows_of count w fits))
-
   pub above_within : (round : ℕ) → up_to round (rows_of count w) ≤ count
   above_within round = omega (arith, up_to_within round (rows_of count w), length_rows_of count w)
 

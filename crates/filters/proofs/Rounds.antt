@@ -2,16 +2,18 @@
 use mathlib.Core.Path.{◌≡◌, refl, sym, ap, ap₂, ◌∙◌, subst}
 use mathlib.Core.Bool.{Bool, true, false, true≢false, not}
 use mathlib.Core.List.{List, [], ◌∷◌}
-use mathlib.Core.Logic.{◌⊎◌, inl, inr, ⊎_elim}
-use Prim.Native.Nat.{ℕ, zero, suc, ◌+◌, ◌-◌, ◌*◌, ◌≤◌, ◌<◌}
+use mathlib.Core.Logic.{⊎_elim}
+use Prim.Native.Nat.{ℕ, zero, suc, ◌+◌, ◌-◌, ◌≤◌, ◌<◌}
+use native.Mathlib.Numerals.{add-one}
 use native.Mathlib.Omega.{arith}
 use lib.Dec.{eqb}
-use lib.ListN.{length, take, drop, get_or}
+use lib.ListN.{length, take, drop, get_or, drop_of_length-le}
+use lib.Seq.{drop-cons}
 use borrow.Author.Tests.{eq-eqb, ne_eqb, lt-ltb, le-ltb}
 use Rattle.laws.specs.Pick.{pick}
 use Rattle.laws.proofs.Tests.{leb_cases, eqb_cases}
-use Rattle.rows.specs.Rows.{row_at}
-use Rattle.rows.proofs.Rows.{first_row_at, rows_from, rows_from_none, rows_from_cons}
+use Rattle.std.specs.Prelude.{Option, Some, None}
+use Rattle.std.specs.Option.{option_eq}
 use Rattle.filters.specs.Filters.{keep, round_of, rounds_after, among}
 use Rattle.filters.specs.Segments.{up_to, rounds_within, rounds_long}
 use Rattle.filters.proofs.Keeping.{keep_yes, keep_no}
@@ -229,167 +231,89 @@ rounds_segment after limit (r ∷ rows) g =
 
 -- ---- The loop over the rows of the first rounds
 
-differs : (t : Bool) → not t ≡ pick t false true
-unfolding pick
-differs true = refl
-differs false = refl
+-- how many rows are still to come, where the last row's round is known and as many rounds are left
+unfoldable pub to_come : ℕ → Option ℕ → List (List ℕ) → ℕ
+to_come left None rows = rounds_long left rows
+to_come left (Some round) rows = rounds_within left round rows
 
--- whether a row behind the first begins a round
-pub begins_later : (i from x y : ℕ) → (i ≡ from → ⊥) → not (eqb x y) ≡ pick (eqb i from) true (pick (eqb x y) false true)
-unfolding pick
-begins_later i from x y d = differs (eqb x y) ∙ sym (rw (ne_eqb i from d))
+to_come_none : (left : ℕ) (last : Option ℕ) → to_come left last [] ≡ 0
+unfolding to_come rounds_long rounds_within
+to_come_none left None = refl
+to_come_none zero (Some round) = refl
+to_come_none (suc left) (Some round) = refl
 
-module _ (w : List ℕ) (count from limit : ℕ) where
-  -- the rows that are still to come, at row i with as many rounds begun
-  unfoldable pub to_come : ℕ → ℕ → ℕ
-  to_come i seen = pick (eqb i from) (rounds_long limit (rows_from w i count)) (rounds_within (limit - seen) (get_or w (8 * i - 8) 0) (rows_from w i count))
+module _ (r : List ℕ) (rows : List (List ℕ)) where
+  to_come_same : (left : ℕ) → to_come left (Some (get_or r 0 0)) (r ∷ rows) ≡ suc (to_come left (Some (get_or r 0 0)) rows)
+  unfolding to_come
+  to_come_same left = within_same r rows left (get_or r 0 0) refl
 
-  first_to_come : (seen : ℕ) → to_come from seen ≡ rounds_long limit (rows_from w from count)
-  unfolding to_come pick
-  first_to_come seen = rw (eq-eqb from from refl)
+  to_come_full : (last : Option ℕ) → (last ≡ Some (get_or r 0 0) → ⊥) → to_come 0 last (r ∷ rows) ≡ 0
+  unfolding to_come
+  to_come_full None d = long_zero r rows
+  to_come_full (Some round) d = within_last r rows round (λ same. d (ap Some (sym same)))
 
-  next_to_come : (i seen : ℕ) → from ≤ i → to_come (i + 1) seen ≡ rounds_within (limit - seen) (get_or w (8 * i) 0) (rows_from w (i + 1) count)
-  unfolding to_come pick
-  next_to_come i seen h =
-      let e : 8 * (i + 1) - 8 ≡ 8 * i = omega arith in
-      rw (ne_eqb (i + 1) from (λ same. omega arith), e)
+  to_come_next : (left : ℕ) (last : Option ℕ) → (last ≡ Some (get_or r 0 0) → ⊥)
+      → to_come (suc left) last (r ∷ rows) ≡ suc (to_come left (Some (get_or r 0 0)) rows)
+  unfolding to_come
+  to_come_next left None d = long_suc r rows left
+  to_come_next left (Some round) d = within_next r rows left round (λ same. d (ap Some (sym same)))
 
-  later_to_come : (i seen : ℕ) → (i ≡ from → ⊥) → to_come i seen ≡ rounds_within (limit - seen) (get_or w (8 * i - 8) 0) (rows_from w i count)
-  unfolding to_come pick
-  later_to_come i seen d = rw (ne_eqb i from d)
+-- as the code asks whether a row is of another round than the last
+other_round : (last : Option ℕ) (x : ℕ) → not (option_eq eqb last (Some x)) ≡ true → last ≡ Some x → ⊥
+other_round None x e same = cc
+other_round (Some round) x e same =
+    true≢false (sym e ∙ rw (eq-eqb round x (some_same same)) refl)
+  where
+    some_same : Some round ≡ Some x → round ≡ x
+    some_same q = cc
 
-  pub record Passing (i seen : ℕ) : Type 0 where
-    pub ahead : from ≤ i
-    pub within : i ≤ count
-    pub few : seen ≤ limit
-    pub fewer : seen ≤ i - from
-    pub begun : (i ≡ from) → seen ≡ 0
-    pub long : from + rounds_long limit (rows_from w from count) ≡ i + to_come i seen
+same_round : (last : Option ℕ) (x : ℕ) → not (option_eq eqb last (Some x)) ≡ false → last ≡ Some x
+same_round None x e = absurd (true≢false e)
+same_round (Some round) x e =
+    ⊎_elim (λ q. ap Some q.1) (λ d. absurd (true≢false (sym (rw d.0) ∙ e))) (eqb_cases round x)
 
-  pub passing_start : from ≤ count → Passing from 0
-  passing_start h =
-      record {
-        ahead = omega arith;
-        within = h;
-        few = omega arith;
-        fewer = omega arith;
-        begun = λ e. refl;
-        long = ap (λ (n : ℕ). from + n) (sym (first_to_come 0));
-      }
+pub record Passing (rows : List (List ℕ)) (limit i left : ℕ) (last : Option ℕ) : Type 0 where
+  pub long : rounds_long limit rows ≡ i + to_come left last (drop i rows)
 
-  -- whether row i begins a round, as the code asks
-  abbrev begins : ℕ → Bool
-  begins i = pick (eqb i from) true (pick (eqb (get_or w (8 * i) 0) (get_or w (8 * i - 8) 0)) false true)
+pub passing_start : (rows : List (List ℕ)) (limit : ℕ) → Passing rows limit 0 limit None
+unfolding to_come
+passing_start rows limit = record { long = omega arith }
 
-  begins_cases : (i : ℕ) → begins i ≡ true → (i ≡ from) ⊎ ((i ≡ from → ⊥) × (get_or w (8 * i) 0 ≡ get_or w (8 * i - 8) 0 → ⊥))
-  unfolding pick
-  begins_cases i b =
-      ⊎_elim
-      (λ e. inl e.1)
-      (λ d. inr (d.1, λ same. true≢false (sym b ∙ rw (d.0, eq-eqb (get_or w (8 * i) 0) (get_or w (8 * i - 8) 0) same))))
-      (eqb_cases i from)
+module _ {rows : List (List ℕ)} {limit i left : ℕ} {last : Option ℕ} (h : Passing rows limit i left last) where
+  pub passing_done : i ≡ length rows → length rows ≡ rounds_long limit rows
+  passing_done all =
+      let none : to_come left last (drop i rows) ≡ 0 =
+      rw (drop_of_length-le rows {i = i} (omega arith)) (to_come_none left last) in
+      omega (arith, h.long)
 
-  begins_not : (i : ℕ) → begins i ≡ false → (i ≡ from → ⊥) × (get_or w (8 * i) 0 ≡ get_or w (8 * i - 8) 0)
-  unfolding pick
-  begins_not i b =
-      ⊎_elim
-      (λ e. absurd (true≢false (sym (rw e.0) ∙ b)))
-      (λ d.
-      ⊎_elim
-      (λ q. (d.1, q.1))
-      (λ q. absurd (true≢false (sym (rw (d.0, q.0)) ∙ b)))
-      (eqb_cases (get_or w (8 * i) 0) (get_or w (8 * i - 8) 0)))
-      (eqb_cases i from)
+  module _ (more : i < length rows) where
+    abbrev row : List ℕ
+    row = get_or rows i []
 
-  module _ {i seen : ℕ} (h : Passing i seen) where
-    pub passing_done : count ≤ i → count ≡ from + rounds_long limit (rows_from w from count)
-    unfolding to_come rounds_long rounds_within pick
-    passing_done all =
-        let none : to_come i seen ≡ 0 =
-        ap (λ (l : List (List ℕ)). pick (eqb i from) (rounds_long limit l) (rounds_within (limit - seen) (get_or w (8 * i - 8) 0) l)) (rows_from_none w i count all)
-        ∙ either (eqb i from) in
-        omega (arith, h.long, h.within)
-      where
-        either : (t : Bool) → ◌≡◌ {A = ℕ} (pick t 0 0) 0
-        either true = refl
-        either false = refl
+    cons : drop i rows ≡ row ∷ drop (i + 1) rows
+    cons = rw add-one (drop-cons rows i [] more)
 
-    module _ (more : i < count) where
-      cons : rows_from w i count ≡ row_at w i ∷ rows_from w (i + 1) count
-      cons = rows_from_cons w i count more
+    -- a row of the round that has begun
+    pub passing_goes : not (option_eq eqb last (Some (get_or row 0 0))) ≡ false → Passing rows limit (i + 1) left last
+    passing_goes test =
+        let same : last ≡ Some (get_or row 0 0) = same_round last (get_or row 0 0) test in
+        let step : to_come left last (drop i rows) ≡ suc (to_come left last (drop (i + 1) rows)) =
+        rw (cons, same) (to_come_same row (drop (i + 1) rows) left) in
+        record { long = omega (arith, h.long, step) }
 
-      word : get_or (row_at w i) 0 0 ≡ get_or w (8 * i) 0
-      word = first_row_at w i
+    module _ (test : not (option_eq eqb last (Some (get_or row 0 0))) ≡ true) where
+      begins : last ≡ Some (get_or row 0 0) → ⊥
+      begins = other_round last (get_or row 0 0) test
 
-      module _ (b : begins i ≡ true) where
-        -- no further round is to come
-        pub passing_full : limit ≤ seen → i ≡ from + rounds_long limit (rows_from w from count)
-        passing_full full =
-            ⊎_elim
-            (λ e.
-            let none : limit ≡ 0 = omega (arith, h.begun e) in
-            let zero_long : to_come i seen ≡ 0 =
-            ap (λ (j : ℕ). to_come j seen) e ∙ first_to_come seen ∙ ap (λ (j : ℕ). rounds_long limit (rows_from w j count)) (sym e) ∙ ap₂ (λ (m : ℕ) (l : List (List ℕ)). rounds_long m l) none cons ∙ long_zero (row_at w i) (rows_from w (i + 1) count) in
-            omega (arith, h.long))
-            (λ d.
-            let left : limit - seen ≡ 0 = omega arith in
-            let zero_long : to_come i seen ≡ 0 =
-            later_to_come i seen d.0
-            ∙ ap₂ (λ (m : ℕ) (l : List (List ℕ)). rounds_within m (get_or w (8 * i - 8) 0) l) left cons
-            ∙ within_last (row_at w i) (rows_from w (i + 1) count) (get_or w (8 * i - 8) 0) (λ same. d.1 (sym word ∙ same)) in
-            omega (arith, h.long))
-            (begins_cases i b)
+      -- no further round is to come
+      pub passing_full : left ≡ 0 → i ≡ rounds_long limit rows
+      passing_full full =
+          let none : to_come left last (drop i rows) ≡ 0 = rw (full, cons) (to_come_full row (drop (i + 1) rows) last begins) in
+          omega (arith, h.long)
 
-        pub passing_begins : seen < limit → Passing (i + 1) (seen + 1)
-        passing_begins room =
-            record {
-              ahead = omega (arith, h.ahead);
-              within = omega arith;
-              few = omega arith;
-              fewer = omega (arith, h.fewer, h.ahead);
-              begun = λ e. absurd (omega (arith, h.ahead));
-              long = omega (arith, h.long, step, next_to_come i (seen + 1) h.ahead);
-            }
-          where
-            behind : ℕ → ℕ
-            behind m = rounds_within m (get_or w (8 * i) 0) (rows_from w (i + 1) count)
-
-            named : (m : ℕ) → rounds_within m (get_or (row_at w i) 0 0) (rows_from w (i + 1) count) ≡ behind m
-            named m = ap (λ (x : ℕ). rounds_within m x (rows_from w (i + 1) count)) word
-
-            step : to_come i seen ≡ suc (behind (limit - (seen + 1)))
-            step =
-                ⊎_elim
-                (λ e.
-                let some : limit ≡ suc (limit - (seen + 1)) = omega (arith, h.begun e) in
-                ap (λ (j : ℕ). to_come j seen) e
-                ∙ first_to_come seen
-                ∙ ap (λ (j : ℕ). rounds_long limit (rows_from w j count)) (sym e)
-                ∙ ap₂ (λ (m : ℕ) (l : List (List ℕ)). rounds_long m l) some cons
-                ∙ long_suc (row_at w i) (rows_from w (i + 1) count) (limit - (seen + 1))
-                ∙ ap suc (named (limit - (seen + 1))))
-                (λ d.
-                let some : limit - seen ≡ suc (limit - (seen + 1)) = omega arith in
-                later_to_come i seen d.0
-                ∙ ap₂ (λ (m : ℕ) (l : List (List ℕ)). rounds_within m (get_or w (8 * i - 8) 0) l) some cons
-                ∙ within_next (row_at w i) (rows_from w (i + 1) count) (limit - (seen + 1)) (get_or w (8 * i - 8) 0) (λ same. d.1 (sym word ∙ same))
-                ∙ ap suc (named (limit - (seen + 1))))
-                (begins_cases i b)
-
-      -- a row of the round that has begun
-      pub passing_goes : begins i ≡ false → Passing (i + 1) seen
-      passing_goes b =
-          let d = begins_not i b in
-          let step : to_come i seen ≡ suc (rounds_within (limit - seen) (get_or w (8 * i) 0) (rows_from w (i + 1) count)) =
-          later_to_come i seen d.0
-          ∙ ap (rounds_within (limit - seen) (get_or w (8 * i - 8) 0)) cons
-          ∙ within_same (row_at w i) (rows_from w (i + 1) count) (limit - seen) (get_or w (8 * i - 8) 0) (word ∙ d.1)
-          ∙ ap (λ (x : ℕ). suc (rounds_within (limit - seen) x (rows_from w (i + 1) count))) (sym d.1) in
-          record {
-            ahead = omega (arith, h.ahead);
-            within = omega arith;
-            few = h.few;
-            fewer = omega (arith, h.fewer, h.ahead);
-            begun = λ e. absurd (omega (arith, h.ahead));
-            long = omega (arith, h.long, step, next_to_come i seen h.ahead);
-          }
+      pub passing_begins : 0 < left → Passing rows limit (i + 1) (left - 1) (Some (get_or row 0 0))
+      passing_begins room =
+          let some : left ≡ suc (left - 1) = omega arith in
+          let step : to_come left last (drop i rows) ≡ suc (to_come (left - 1) (Some (get_or row 0 0)) (drop (i + 1) rows)) =
+          ap₂ (λ (m : ℕ) (l : List (List ℕ)). to_come m last l) some cons ∙ to_come_next row (drop (i + 1) rows) (left - 1) last begins in
+          record { long = omega (arith, h.long, step) }

@@ -8,13 +8,16 @@ use native.Mathlib.Omega.{arith}
 use lib.Dec.{eqb, leb, ltb}
 use lib.ListN.{length, take, drop, get_or, length-take}
 use borrow.Author.Tests.{le-leb, lt-leb, ne_eqb, lt-ltb, le-ltb}
+use Rattle.std.specs.Prelude.{Result, Ok, Err, MatchResult}
+use Rattle.std.specs.List.Sorted.{IsPartitionedBy, IsPartitionPoint}
 use Rattle.laws.specs.Pick.{pick}
 use Rattle.laws.proofs.Tests.{leb_cases, eqb_cases}
 use Rattle.std.specs.declared.cmp.Ordering.TheVariants.{Less}
-use Rattle.rows.specs.Rows.{key, choose, compared, Leads, Ascending, below, has_key}
+use Rattle.rows.specs.Rows.{key, choose, compared, Leads, Ascending, below, has_key, place_of}
 use Rattle.tables.specs.Tables.{EightWords}
 use Rattle.rows.proofs.Lexicographic.{order_cases, first_below, first_above, first_same, not_above, not_equal, compared_equal, below_of}
 use Rattle.rows.proofs.Ascending.{leads_none, leads_trans}
+use Rattle.rows.proofs.Places.{at_place, gap_place}
 use Rattle.filters.specs.Filters.{keep}
 use Rattle.filters.specs.Segments.{up_to}
 use Rattle.filters.proofs.Keeping.{keep_yes, keep_no}
@@ -23,6 +26,12 @@ use Rattle.filters.proofs.Keeping.{keep_yes, keep_no}
 
 abbrev keyed : List ℕ → List ℕ → Bool
 keyed k r = choose (compared (key r) k) false true false
+
+-- the number in the answer of a search, whichever answer it is
+pub place_below : (k : List ℕ) (rows : List (List ℕ)) (r : Result ℕ ℕ) {n : ℕ} → r ≡ place_of k rows → MatchResult r (λ i. n ≡ i) (λ i. n ≡ i)
+    → n ≡ below k rows
+place_below k rows (Ok i) e is = is ∙ (at_place k rows e).1
+place_below k rows (Err i) e is = is ∙ (gap_place k rows e).1
 
 pub absent_none : (k : List ℕ) (rows : List (List ℕ)) → has_key k rows ≡ false → keep (keyed k) rows ≡ []
 unfolding keep has_key choose pick
@@ -119,12 +128,48 @@ module _ (round : ℕ) where
       go true h = omega arith
       go false h = omega arith
 
-  -- where no row is above the round
-  pub up_to_all : (rows : List (List ℕ)) → ((i : ℕ) → i < length rows → get_or (get_or rows i []) 0 0 ≤ round) → up_to round rows ≡ length rows
+-- ---- The first row above a round, as `partition_point` finds it
+
+least_at : (p : ℕ) (rows : List (List ℕ)) (j : ℕ) (d : List ℕ) → AtLeast p rows → j < length rows → p ≤ get_or (get_or rows j d) 0 0
+least_at p [] j d l h = absurd (omega arith)
+least_at p (r ∷ rows) zero d l h = l.0
+least_at p (r ∷ rows) (suc j) d l h = least_at p rows j d l.1 (omega arith)
+
+rising_at : (rows : List (List ℕ)) (i j : ℕ) (d : List ℕ) → Rising rows → i ≤ j → j < length rows
+    → get_or (get_or rows i d) 0 0 ≤ get_or (get_or rows j d) 0 0
+rising_at [] i j d g o h = absurd (omega arith)
+rising_at (r ∷ rows) zero zero d g o h = omega arith
+rising_at (r ∷ rows) zero (suc j) d g o h = least_at (get_or r 0 0) rows j d g.0 (omega arith)
+rising_at (r ∷ rows) (suc i) zero d g o h = absurd (omega arith)
+rising_at (r ∷ rows) (suc i) (suc j) d g o h = rising_at rows i j d g.1 (omega arith) (omega arith)
+
+module _ (round : ℕ) where
+  -- whether a row is up to the round
+  abbrev pub early : List ℕ → Bool
+  early r = leb (get_or r 0 0) round
+
+  early_parts : (rows : List (List ℕ)) → Rising rows → IsPartitionedBy early rows
+  early_parts rows g i j d o h e =
+      ⊎_elim
+      (λ t. le-leb _ _ (omega (arith, t.1, rising_at rows i j d g o h)))
+      (λ f. absurd (true≢false (sym e ∙ f.0)))
+      (leb_cases (get_or (get_or rows j d) 0 0) round)
+
+  parted : (rows : List (List ℕ)) (i : ℕ) → i ≤ length rows → IsPartitionPoint (λ r. early r ≡ true) (λ r. early r ≡ false) rows i
+      → i ≡ up_to round rows
   unfolding up_to pick
-  up_to_all [] h = refl
-  up_to_all (r ∷ rows) h =
-      rw (le-leb (get_or r 0 0) round (h 0 (omega arith))) (ap suc (up_to_all rows (λ i l. h (suc i) (omega arith))))
+  parted [] i b h = omega arith
+  parted (r ∷ rows) zero b h =
+      let e : early r ≡ false = h.1 0 [] (omega arith) (omega arith) in
+      rw e (parted rows 0 (omega arith) (λ j d o l. absurd (omega arith), λ j d o l. h.1 (suc j) d (omega arith) (omega arith)))
+  parted (r ∷ rows) (suc i) b h =
+      let e : early r ≡ true = h.0 0 [] (omega arith) (omega arith) in
+      rw e (ap suc (parted rows i (omega arith) (λ j d o l. h.0 (suc j) d (omega arith) (omega arith), λ j d o l. h.1 (suc j) d (omega arith) (omega arith))))
+
+  pub point_found : (rows : List (List ℕ)) (i : ℕ) → Ascending rows → i ≤ length rows
+      → (IsPartitionedBy early rows → IsPartitionPoint (λ r. early r ≡ true) (λ r. early r ≡ false) rows i)
+      → i ≡ up_to round rows
+  point_found rows i a b h = parted rows i b (h (early_parts rows (ascending_rising rows a)))
 
 -- the key with which a round begins
 abbrev pub round_key : ℕ → List ℕ

@@ -5,10 +5,11 @@
 // of BlockStoreInner's map).
 #![tactic(auto)]
 
-ghost use Rattle.std.specs.Prelude.{◌≡◌, true, false, ◌+◌, ◌-◌, ◌*◌, ◌≤◌, eqb, length, get_or};
+ghost use Rattle.std.specs.Prelude.{◌≡◌, eqb, get_or};
 ghost use Rattle.laws.specs.Pick.{pick};
-ghost use Rattle.rows.specs.Rows.{rows_of, Ascending, below};
-ghost use Rattle.filters.specs.Segments.{is_author, between, up_to, rounds_long};
+ghost use Rattle.rows.specs.Rows.{Ascending, below};
+ghost use Rattle.filters.specs.Filters.{author_of};
+ghost use Rattle.filters.specs.Segments.{is_author, up_to, rounds_long};
 
 use types::{AuthorityIndex, RoundNumber};
 
@@ -16,68 +17,51 @@ use types::{AuthorityIndex, RoundNumber};
 pub const HIGHEST: RoundNumber = u64::MAX;
 
 // How many rows have a key below k.
-pub fn lower_bound(index: &[u64], count: usize, k: [u64; 6]) -> usize
-    requires { (8 * count ≤ length index.now) × Ascending (rows_of count index.now) }
-    ensures { result ≡ below k (rows_of count index.now) }
+pub fn lower_bound(rows: &[[u64; 8]], k: [u64; 6]) -> usize
+    requires { Ascending rows.now }
+    ensures { result ≡ below k rows.now }
 {
-    match rows::find(index, count, k) {
-        Ok(i) => i,
-        Err(i) => i,
-    }
+    rows::find(rows, k).unwrap_or_else(|i| i)
 }
 
 // The index of the first row above a round, or the count.
-pub fn first_above(index: &[u64], count: usize, round: RoundNumber) -> usize
-    requires { (8 * count ≤ length index.now) × Ascending (rows_of count index.now) }
-    ensures { result ≡ up_to round (rows_of count index.now) }
+pub fn first_above(rows: &[[u64; 8]], round: RoundNumber) -> usize
+    requires { Ascending rows.now }
+    ensures { result ≡ up_to round rows.now }
 {
-    if round == HIGHEST {
-        return count;
-    }
-    lower_bound(index, count, [round + 1, 0, 0, 0, 0, 0])
+    rows.partition_point(|row| row[0] <= round)
 }
 
-// Whether row i is of the author, or every author's rows are asked for.
-pub fn is_chosen(index: &[u64], i: usize, author: Option<AuthorityIndex>) -> bool
-    requires { 8 * i + 8 ≤ length index.now }
-    ensures { result ≡ is_author author (get_or index.now (8 * i + 1) 0) }
+// Whether the row is of the author, or every author's rows are asked for.
+#[tactic(auto, unfolding(crate::specs::Filters::author_of))]
+pub fn is_chosen(row: &[u64; 8], author: Option<AuthorityIndex>) -> bool
+    ensures { result ≡ is_author author (author_of row.now) }
 {
-    author.is_none_or(|author| index[8 * i + 1] == author)
+    author.is_none_or(|author| row[1] == author)
 }
 
-// 1 where the block of row i is not loaded.
+// 1 where the block of the row is not loaded.
 #[tactic(auto, unfolding(laws::specs::Pick::pick))]
-pub fn not_loaded(index: &[u64], i: usize) -> u64
-    requires { 8 * i + 8 ≤ length index.now }
-    ensures { result ≡ pick (eqb (get_or index.now (8 * i + 7) 0) 0) 1 0 }
+pub fn not_loaded(row: &[u64; 8]) -> u64
+    ensures { result ≡ pick (eqb (get_or row.now 7 0) 0) 1 0 }
 {
-    u64::from(index[8 * i + 7] == 0)
+    u64::from(row[7] == 0)
 }
 
-// The index behind the last row of the first `limit` rounds that the rows from `from` on have.
-pub fn rounds_end(index: &[u64], count: usize, from: usize, limit: usize) -> usize
-    requires { (8 * count ≤ length index.now) × (from ≤ count) }
-    ensures { result ≡ from + rounds_long limit (between from count index.now) }
+// How many of the rows, from the first on, are of the first `limit` rounds that they have.
+pub fn rounds_end(rows: &[[u64; 8]], limit: usize) -> usize
+    ensures { result ≡ rounds_long limit rows.now }
 {
-    let mut seen = 0;
-    for i in from..count {
-        if begins_round(index, from, i) {
-            if limit <= seen {
+    let mut left = limit;
+    let mut last = None;
+    for (i, row) in rows.iter().enumerate() {
+        if last != Some(row[0]) {
+            if left == 0 {
                 return i;
             }
-            seen += 1;
+            left -= 1;
+            last = Some(row[0]);
         }
     }
-    count
-}
-
-// Whether row i is the first, from row `from` on, of its round.
-#[tactic(auto, unfolding(laws::specs::Pick::pick))]
-fn begins_round(index: &[u64], from: usize, i: usize) -> bool
-    requires { (from ≤ i) × (8 * i + 8 ≤ length index.now) }
-    ensures { result ≡ pick (eqb i from) true
-        (pick (eqb (get_or index.now (8 * i) 0) (get_or index.now (8 * i - 8) 0)) false
-        true) }
-{
-    i == from || index[8 * i] != index[8 * i - 8]
+    rows.len()
 }

@@ -3,31 +3,25 @@ use mathlib.Core.Path.{◌≡◌, refl, sym, ap, ◌∙◌}
 use mathlib.Core.Bool.{Bool, true, false}
 use mathlib.Core.List.{List, [], ◌∷◌, ◌++◌}
 use mathlib.Core.Logic.{⊎_elim}
-use Prim.Native.Nat.{ℕ, zero, suc, ◌+◌, ◌*◌, ◌≤◌}
+use Prim.Native.Nat.{ℕ, zero, suc, ◌≤◌, ◌<◌}
 use native.Mathlib.Omega.{arith}
 use lib.Dec.{ltb, eqb}
-use lib.ListN.{length, take, drop, get_or, length-drop}
-use lib.Seq.{take-add, length-take-le}
+use lib.ListN.{length, take, drop, get_or, length-drop, drop_of_length-le}
+use lib.Seq.{take-add, drop-cons, length-take-le}
 use borrow.Author.Tests.{lt-ltb, le-ltb, eq-eqb}
 use Rattle.laws.specs.Bytes.{zeros}
 use Rattle.laws.specs.Pick.{pick}
 use Rattle.laws.proofs.Tests.{leb_cases, eqb_cases}
-use Rattle.laws.proofs.Written.{get_or_bytes_at}
 use Rattle.std.specs.declared.cmp.Ordering.TheVariants.{Less, Greater}
 use Rattle.std.specs.Prelude.{Ok, Err}
-use Rattle.rows.specs.Rows.{rows_of, row_at, key, choose, compared, Leads, Ascending, below, has_key, place_of}
+use Rattle.rows.specs.Rows.{key, choose, compared, Leads, Ascending, below, has_key, place_of}
 use Rattle.tables.specs.Tables.{EightWords}
 use Rattle.rows.proofs.Lexicographic.{order_cases, not_equal, not_above, above_not_equal, first_above, first_same, compared_self, compared_equal, below_of, below_trans, irreflexive}
 use Rattle.rows.proofs.Ascending.{leads_trans, leads_none}
-use Rattle.rows.proofs.Places.{below_within, at_place, gap_place}
-use Rattle.tables.proofs.Tables.{eights_rows_of}
-use Rattle.rows.proofs.Rows.{length_rows_of, first_row_at, rows_from, rows_from_cons, rows_from_none, drop_rows_of}
+use Rattle.rows.proofs.Places.{at_place, gap_place}
+use Rattle.tables.proofs.Tables.{eights_told}
 use Rattle.index.specs.Keys.{exists_at}
 use Rattle.index.proofs.Prefixes.{compared_append}
-
-second_row_at : (w : List ℕ) (i : ℕ) → get_or (row_at w i) 1 0 ≡ get_or w (8 * i + 1) 0
-unfolding row_at
-second_row_at w i = get_or_bytes_at w (8 * i) 8 1 (omega arith)
 
 -- nothing of n words is below n zeros
 least : (n : ℕ) (t : List ℕ) → length t ≡ n → compared t (zeros n) ≡ Less → ⊥
@@ -169,26 +163,24 @@ module _ (authority round : ℕ) where
       ∙ rw other (none_behind r rows two a.0 a.1 e.1 (below_of (take 2 r) wanted g) ∙ sym other ∙ sym (front is))))
       (order_cases (compared (take 2 r) wanted))
 
-  -- The rows of a table, and where the lowest key is among them or is to be put.
-  module _ (t : List ℕ) (count : ℕ) (fits : 8 * count ≤ length t) (a : Ascending (rows_of count t)) {i : ℕ} where
-    pub exists_found : Ok i ≡ place_of lowest (rows_of count t) → true ≡ exists_at authority round (rows_of count t)
+  -- Where the lowest key is among the rows, or is to be put.
+  module _ (rows : List (List ℕ)) (a : Ascending rows) (told : (i : ℕ) → i < length rows → length (get_or rows i []) ≡ 8) {i : ℕ} where
+    pub exists_found : Ok i ≡ place_of lowest rows → true ≡ exists_at authority round rows
     unfolding pick
-    exists_found is = sym (exists_place (rows_of count t) (eights_rows_of count t fits) a ∙ rw (at_place lowest (rows_of count t) is).0)
+    exists_found is = sym (exists_place rows (eights_told rows told) a ∙ rw (at_place lowest rows is).0)
 
-    pub exists_not_found : Err i ≡ place_of lowest (rows_of count t)
-        → pick (ltb i count) (pick (eqb (get_or t (8 * i) 0) round) (eqb (get_or t (8 * i + 1) 0) authority) false) false
-        ≡ exists_at authority round (rows_of count t)
+    -- r is what the code reads in the row at that place, if there is one
+    pub exists_not_found : {r : Bool} → Err i ≡ place_of lowest rows → r ≡ pick (ltb i (length rows)) (has (get_or rows i [])) false
+        → r ≡ exists_at authority round rows
     unfolding pick
-    exists_not_found is =
-        let gap = gap_place lowest (rows_of count t) is in
-        let within : i ≤ count = omega (arith, gap.1, below_within lowest (rows_of count t), length_rows_of count t) in
-        let rest : drop (below lowest (rows_of count t)) (rows_of count t) ≡ rows_from t i count =
-        ap (λ (n : ℕ). drop n (rows_of count t)) (sym gap.1) ∙ drop_rows_of t i count within in
-        sym (
-        exists_place (rows_of count t) (eights_rows_of count t fits) a
-        ∙ rw (gap.0, rest)
+    exists_not_found is read =
+        let gap = gap_place lowest rows is in
+        read
+        ∙ sym (
+        exists_place rows (eights_told rows told) a
+        ∙ rw (gap.0, sym gap.1)
         (⊎_elim
-        (λ l. rw (rows_from_cons t i count l.1, lt-ltb i count l.1, first_row_at t i, second_row_at t i))
-        (λ g. rw (rows_from_none t i count (omega (arith, g.1)), le-ltb i count (omega (arith, g.1))))
-        (leb_cases (suc i) count))
+        (λ l. rw (drop-cons rows i [] l.1, lt-ltb i (length rows) l.1))
+        (λ g. rw (drop_of_length-le rows {i = i} (omega (arith, g.1)), le-ltb i (length rows) (omega (arith, g.1))))
+        (leb_cases (suc i) (length rows)))
         )

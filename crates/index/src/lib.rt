@@ -5,11 +5,9 @@
 // in a round, and the store's summary. The rows themselves are a table that the caller lends.
 #![tactic(auto)]
 
-ghost use Rattle.std.specs.Prelude.{◌≡◌, false, ◌+◌, ◌*◌, ◌≤◌, ◌<◌, max as greater, ltb, eqb, length, get_or};
-ghost use Rattle.laws.specs.Pick.{pick};
-ghost use Rattle.laws.specs.Bytes.{bytes_at};
-ghost use Rattle.rows.specs.Rows.{rows_of, Ascending};
-ghost use Rattle.index.specs.Keys.{of_be, key_words, index_row, exists_at};
+ghost use Rattle.std.specs.Prelude.{◌≡◌, ◌<◌};
+ghost use Rattle.rows.specs.Rows.{Ascending};
+ghost use Rattle.index.specs.Keys.{key_words, index_row, exists_at};
 ghost use Rattle.index.specs.Summary.{empty_summary, own_round, own_with, summary_with};
 
 use std::cmp::max;
@@ -48,25 +46,17 @@ pub fn index_row(reference: BlockReference, position: WalPosition, loaded: u64) 
     [a, b, c, d, e, f, position.0, loaded]
 }
 
-// Whether row i, if there is one, has this round and authority.
-#[tactic(auto, unfolding(laws::specs::Pick::pick))]
-fn row_is(t: &[u64], count: usize, i: usize, authority: AuthorityIndex, round: RoundNumber) -> bool
-    requires { 8 * count ≤ length t.now }
-    ensures { result ≡ pick (ltb i count) (pick (eqb (get_or t.now (8 * i) 0) round)
-        (eqb (get_or t.now (8 * i + 1) 0) authority) false) false }
-{
-    i < count && t[8 * i] == round && t[8 * i + 1] == authority
-}
-
 // Whether one of the ascending rows has this round and authority: the row with the lowest digest
 // would stand at the place of digest 0.
-pub fn exists_at(t: &[u64], count: usize, authority: AuthorityIndex, round: RoundNumber) -> bool
-    requires { (8 * count ≤ length t.now) × Ascending (rows_of count t.now) }
-    ensures { result ≡ exists_at authority round (rows_of count t.now) }
+pub fn exists_at(rows: &[[u64; 8]], authority: AuthorityIndex, round: RoundNumber) -> bool
+    requires { Ascending rows.now }
+    ensures { result ≡ exists_at authority round rows.now }
 {
-    match rows::find(t, count, [round, authority, 0, 0, 0, 0]) {
+    match rows::find(rows, [round, authority, 0, 0, 0, 0]) {
         Ok(_) => true,
-        Err(i) => row_is(t, count, i, authority, round),
+        Err(i) => rows
+            .get(i)
+            .is_some_and(|row| row[0] == round && row[1] == authority),
     }
 }
 

@@ -1,9 +1,9 @@
 -- Rows as arrays: std's words on slices, and those of specs/Rows.antt. Assumes nothing.
-use mathlib.Core.Path.{◌≡◌, refl, sym, ap, ◌∙◌}
+use mathlib.Core.Path.{◌≡◌, refl, ap, ◌∙◌}
 use mathlib.Core.List.{List, [], ◌∷◌}
 use mathlib.Core.Bool.{Bool, true, false}
 use mathlib.Core.Logic.{inl, inr}
-use Prim.Native.Nat.{ℕ, zero, suc, ◌*◌, ◌/◌, ◌≤◌, ◌<◌}
+use Prim.Native.Nat.{ℕ, zero, suc, ◌*◌, ◌/◌, ◌≤◌}
 use native.Mathlib.Omega.{arith}
 use lib.Dec.{leb, ltb}
 use lib.ListN.{length, take, drop, get_or}
@@ -14,28 +14,13 @@ use Rattle.laws.proofs.Tests.{leb_cases}
 use Rattle.std.specs.List.{position, position_or_len}
 use Rattle.std.specs.Option.{unwrap_or}
 use Rattle.std.specs.Simd.{first_chunks}
-use Rattle.std.specs.Ordering.{nat_cmp}
-use Rattle.std.specs.Cmp.Lexicographic.{slice_cmp}
-use Rattle.std.proofs.lemmas.Cmp.{by_ranked, ranked}
-use Rattle.rows.specs.Rows.{rows_of, compared, leading_below}
+use Rattle.rows.specs.Rows.{rows_of, leading_below}
 use Rattle.rows.proofs.Rows.{rows_of_take}
-use Rattle.rows.proofs.Lexicographic.{first_below, first_same, first_above}
 
 pub chunks_rows : (n : ℕ) (w : List ℕ) → first_chunks 8 n w ≡ rows_of n w
 unfolding rows_of
 chunks_rows zero w = refl
 chunks_rows (suc n) w = ap (λ (l : List (List ℕ)). take 8 w ∷ l) (chunks_rows n (drop 8 w))
-
-pub compared_is : (a b : List ℕ) → slice_cmp nat_cmp a b ≡ compared a b
-unfolding compared
-compared_is [] [] = refl
-compared_is [] (y ∷ b) = refl
-compared_is (x ∷ a) [] = refl
-compared_is (x ∷ a) (y ∷ b) =
-    by_ranked (x < y) (x ≡ y) (y < x) (nat_cmp x y) (ranked x y (nat_cmp x y) refl)
-    (λ e l. rw e (sym (first_below x y a b l)))
-    (λ e q. rw e (compared_is a b ∙ sym (first_same x y a b q)))
-    (λ e g. rw e (sym (first_above x y a b g)))
 
 -- the first n rows, as `as_chunks` cuts them off
 pub first_rows : (n : ℕ) (w : List ℕ) → 8 * n ≤ length w
@@ -65,9 +50,9 @@ leading_prefix p (r ∷ rows) =
       | inr g ↦ rw (g.0, lt-ltb (get_or r 0 0) p g.1, n) (omega arith)
     ]
 
-pub leading_position : (p : ℕ) (rows : List (List ℕ)) (n : ℕ) → n ≡ length rows
-    → unwrap_or (position (λ row. leb p (get_or row 0 0)) rows) n ≡ leading_below p rows
-leading_position p rows n e =
+pub leading_position : (p : ℕ) (rows : List (List ℕ))
+    → unwrap_or (position (λ row. leb p (get_or row 0 0)) rows) (length rows) ≡ leading_below p rows
+leading_position p rows =
     let found : ℕ = position_or_len (λ row. leb p (get_or row 0 0)) rows in
     let m : found ≡ leading_below p rows = leading_prefix p rows in
     elim (leb_cases (suc found) (length rows)) [

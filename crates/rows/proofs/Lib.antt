@@ -3,7 +3,6 @@ pub mod Words
 pub mod Rows
 pub mod Ascending
 pub mod Places
-pub mod Testing
 pub mod Comparing
 pub mod Arrays
 pub mod Searching

@@ -3,12 +3,11 @@ use mathlib.Core.Path.{◌≡◌, refl, sym, ap, ◌∙◌}
 use mathlib.Core.List.{List, [], ◌∷◌, ◌++◌, append_assoc, append-nil}
 use Prim.Native.Nat.{ℕ, zero, suc, ◌+◌, ◌-◌, ◌*◌, ◌≤◌, ◌<◌}
 use native.Mathlib.Nat.{zero-add, suc-add, add-zero}
-use native.Mathlib.Numerals.{towards_suc}
 use native.Mathlib.Omega.{arith}
 use lib.ListN.{length, take, drop, set, get_or, length-append}
 use lib.Seq.{take-add, take-take, take-nil, drop-drop, take_at, drop_at, take_all, get_or_at, get_or-take, get_or-drop, set_split, length-take-le}
 use Rattle.laws.specs.Bytes.{bytes_at, written, zeros}
-use Rattle.laws.proofs.Written.{length_bytes_at, length_zeros, drop_written, get_or_bytes_at}
+use Rattle.laws.proofs.Written.{length_bytes_at, length_zeros, drop_written}
 use Rattle.rows.proofs.Words.{bytes_at_words}
 use Rattle.rows.specs.Rows.{rows_of, row_at, flat, key}
 
@@ -21,29 +20,7 @@ pub length_row_at : (w : List ℕ) (i : ℕ) → 8 * i + 8 ≤ length w → leng
 unfolding row_at
 length_row_at w i h = length_bytes_at w (8 * i) 8 h
 
-pub key_row_at : (w : List ℕ) (i : ℕ) → key (row_at w i) ≡ bytes_at w (8 * i) 6
-unfolding key row_at bytes_at
-key_row_at w i = take-take 6 8 (drop (8 * i) w) (omega arith)
-
-pub length_key : (w : List ℕ) (i : ℕ) → 8 * i + 6 ≤ length w → length (key (row_at w i)) ≡ 6
-length_key w i h = ap length (key_row_at w i) ∙ length_bytes_at w (8 * i) 6 h
-
-pub get_or_key : (w : List ℕ) (i j : ℕ) → j < 6 → get_or (key (row_at w i)) j 0 ≡ get_or w (8 * i + j) 0
-get_or_key w i j h = ap (λ (l : List ℕ). get_or l j 0) (key_row_at w i) ∙ get_or_bytes_at w (8 * i) 6 j h
-
 -- a key, word by word
-pub key_words_lem : (w : List ℕ) (i : ℕ) → 8 * i + 6 ≤ length w
-    → get_or w (8 * i) 0
-    ∷ get_or w (8 * i + 1) 0
-    ∷ get_or w (8 * i + 2) 0
-    ∷ get_or w (8 * i + 3) 0
-    ∷ get_or w (8 * i + 4) 0
-    ∷ get_or w (8 * i + 5) 0
-    ∷ []
-    ≡ key (row_at w i)
-key_words_lem w i h = simp towards_suc (sym (bytes_at_words w (8 * i) 6 h) ∙ sym (key_row_at w i))
-
--- the same of a row alone
 pub key_of_row : (row : List ℕ) → length row ≡ 8
     → get_or row 0 0 ∷ get_or row 1 0 ∷ get_or row 2 0 ∷ get_or row 3 0 ∷ get_or row 4 0 ∷ get_or row 5 0 ∷ [] ≡ key row
 unfolding key bytes_at

@@ -6,7 +6,7 @@ use mathlib.Core.Logic.{⊎_elim}
 use Prim.Native.Nat.{ℕ, zero, suc, ◌+◌, ◌-◌, ◌*◌, ◌/◌, ◌≤◌, ◌<◌}
 use native.Mathlib.Nat.{add_comm}
 use native.Mathlib.Omega.{arith}
-use lib.ListN.{length, take, drop, set, length-append, length-take, length-drop, take-append-drop, replicate-append-replicate}
+use lib.ListN.{length, take, drop, set, get_or, length-append, length-take, length-drop, take-append-drop, replicate-append-replicate}
 use lib.Seq.{drop_at, drop-drop}
 use Rattle.laws.specs.Bytes.{bytes_at, written, zeros}
 use Rattle.laws.proofs.Tests.{leb_cases}
@@ -41,6 +41,11 @@ unfolding rows_of
 eights_rows_of zero w h = tt
 eights_rows_of (suc n) w h =
     (simp length-take (omega arith), eights_rows_of n (drop 8 w) (omega (arith, length-drop 8 w)))
+
+-- the same, as it is known of a slice of rows
+pub eights_told : (rows : List (List ℕ)) → ((i : ℕ) → i < length rows → length (get_or rows i []) ≡ 8) → EightWords rows
+eights_told [] h = tt
+eights_told (r ∷ rows) h = (h 0 (omega arith), eights_told rows (λ i l. h (suc i) (omega arith)))
 
 zeros_append : (m n : ℕ) → zeros m ++ zeros n ≡ zeros (m + n)
 unfolding zeros

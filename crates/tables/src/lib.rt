@@ -1,5 +1,7 @@
 // Tables of rows that a caller lends: rows put, inserted, replaced, dropped, cleared. Lengths are in words,
 // counts in rows. Each function asks that its rows lie within the table: its callers have tested that.
+// Kept: words and a count, where what only reads takes rows. Room is lent behind the rows, and std does not
+// say what the words are after a write through `as_chunks_mut`.
 #![tactic(auto)]
 
 ghost use Rattle.std.specs.Prelude.{◌≡◌, ◌++◌, ◌+◌, ◌-◌, ◌*◌, ◌≤◌, length};
@@ -61,7 +63,7 @@ pub fn drop_before(t: &mut [u64], count: usize, p: u64) -> usize
     ensures value { result ≡ count - leading_below p (rows_of count t.old) }
     ensures t_after { t.new ≡ dropped t.old count (leading_below p (rows_of count t.old)) }
 {
-    let n = rows::position_of_first_from(t, count, p);
+    let n = rows::position_of_first_from(rows::rows_of(t, count), p);
     drop_rows(t, count, n);
     count - n
 }
@@ -73,7 +75,7 @@ pub fn upsert_row(t: &mut [u64], count: usize, row: [u64; 8]) -> Option<usize>
     ensures value { result ≡ upsert_count t.old count row }
     ensures t_after { t.new ≡ upserted t.old count row }
 {
-    match rows::find(t, count, rows::key(&row)) {
+    match rows::find(rows::rows_of(t, count), rows::key(&row)) {
         Ok(i) => {
             put_row(t, i, row);
             Some(count)

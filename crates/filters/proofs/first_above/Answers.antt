@@ -1,15 +1,11 @@
--- `filters::first_above` meets its contract: the first row above a round is the first whose key is not below that of the next round. Assumes nothing.
-use mathlib.Core.Path.{◌∙◌}
-use native.Mathlib.Omega.{arith}
-use Rattle.filters.proofs.Queries.{above_last, above_key}
+-- `filters::first_above` meets its contract: no row up to the round stands behind one above it. Assumes nothing.
+use borrow.Author.Tests.{tests}
+use Rattle.std.proofs.Common.{◌≡◌, rules}
+use Rattle.std.proofs.lemmas.Fn.{always_returns_same}
+use Rattle.filters.proofs.Segments.{early, point_found}
 use Rattle.filters.proofs.first_above.Goals as goal
-
-pub returns-then-round-eq-HIGHEST : goal.returns-then-round-eq-HIGHEST
-returns-then-round-eq-HIGHEST c =
-    let a = c.args in
-    above_last a.index.now a.count c.requires.0 a.round (λ i. omega (arith, c.if-round-eq-HIGHEST.true, c.type_inv.index i))
 
 pub returns : goal.returns
 returns c =
-    let a = c.args in
-    c.lower_bound.ensures ∙ above_key a.index.now a.count c.requires.0 a.round
+    point_found c.args.round c.args.rows.now c.partition_point.result c.requires c.partition_point.ensures.bound
+    (c.partition_point.ensures.partitioned (early c.args.round) (always_returns_same _ (λ x r. r ≡ early c.args.round x.0.now) _ (λ x r q k. search (rules, tests))))

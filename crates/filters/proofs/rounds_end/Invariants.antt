@@ -3,4 +3,4 @@ use Rattle.filters.proofs.Rounds.{Passing}
 use Rattle.filters.proofs.rounds_end.Given as goal
 
 abbrev pub invariant-loop-i : goal.invariant-loop-i
-invariant-loop-i l = Passing l.index l.count l.from l.limit l.i l.seen
+invariant-loop-i l = Passing l.rows l.limit l.i l.left l.last

@@ -4,10 +4,10 @@ use Rattle.rows.proofs.Comparing.{comparing_start, comparing_below, comparing_ab
 use Rattle.rows.proofs.compare_key.Goals as goal
 
 pub loop-j-init : goal.loop-j-init
-loop-j-init c = comparing_start c.args.t.now c.args.i c.args.k
+loop-j-init c = comparing_start c.args.row.now c.args.k.now
 
-pub returns-then-t-at : goal.returns-then-t-at
-returns-then-t-at c = comparing_below c.loop-j.invariant (omega arith) (omega arith) (omega arith) (omega arith)
+pub returns-then-row-j : goal.returns-then-row-j
+returns-then-row-j c = comparing_below c.loop-j.invariant (omega arith) (omega arith) (omega arith) (omega arith)
 
 pub returns-then-k-j : goal.returns-then-k-j
 returns-then-k-j c = comparing_above c.loop-j.invariant (omega arith) (omega arith) (omega arith) (omega arith)

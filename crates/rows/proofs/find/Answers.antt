@@ -1,30 +1,24 @@
 -- `rows::find` meets its contract. Assumes nothing.
-use mathlib.Core.Path.{◌≡◌, sym, ap, ◌∙◌}
-use lib.ListN.{length}
-use Rattle.std.proofs.Common.{rules, Err}
+use mathlib.Core.Path.{◌≡◌, sym, ◌∙◌}
+use Rattle.std.proofs.Common.{rules}
 use Rattle.std.proofs.lemmas.Fn.{always_returns_same}
 use Rattle.rows.specs.Rows.{key, compared}
-use Rattle.rows.proofs.Rows.{length_rows_of}
 use Rattle.rows.proofs.Searching.{no_row_lem, last_below, last_at, last_above, searched}
 use Rattle.rows.proofs.find.Goals as goal
 
 pub returns-in_default : goal.returns-in_default
-returns-in_default c = no_row_lem c.args.k _ (sym (ap length c.rows_of.ensures) ∙ c.in_default.ensures.cases)
+returns-in_default c = no_row_lem c.args.k _ c.in_default.ensures.cases
 
 pub returns-in-Less : goal.returns-in-Less
 returns-in-Less c =
-    let is = sym c.rows_of.ensures ∙ c.in-Some.ensures.cases.0 in
-    ap Err (sym (length_rows_of c.args.count c.args.t.now))
-    ∙ last_below c.args.k _ _ _ is c.requires.1 (sym c.compare.ensures ∙ c.in-Less.is)
+    last_below c.args.k _ _ _ c.in-Some.ensures.cases.0 c.requires (sym c.compare_key.ensures ∙ c.in-Less.is)
 
 pub returns-in-Equal : goal.returns-in-Equal
 returns-in-Equal c =
-    let is = sym c.rows_of.ensures ∙ c.in-Some.ensures.cases.0 in
-    last_at c.args.k _ _ _ is c.requires.1 (sym c.compare.ensures ∙ c.in-Equal.is)
+    last_at c.args.k _ _ _ c.in-Some.ensures.cases.0 c.requires (sym c.compare_key.ensures ∙ c.in-Equal.is)
 
 pub returns-in-Greater : goal.returns-in-Greater
 returns-in-Greater c =
-    let is = sym c.rows_of.ensures ∙ c.in-Some.ensures.cases.0 in
-    let above = last_above c.args.k _ _ _ is c.requires.1 (sym c.compare.ensures ∙ c.in-Greater.is) in
+    let above = last_above c.args.k _ _ _ c.in-Some.ensures.cases.0 c.requires (sym c.compare_key.ensures ∙ c.in-Greater.is) in
     let found = c.binary_search_by.ensures.position (λ row. compared (key row) c.args.k) (always_returns_same _ (λ a r. r ≡ compared (key a.0.now) c.args.k) _ (λ a r q k. search rules)) in
     searched c.args.k _ c.binary_search_by.result above.0 c.binary_search_by.ensures.bound found ∙ above.1

@@ -84,39 +84,42 @@ bytes_placed s p bytes e h =
     ap (λ (n : ℕ). record { at = n; left = length bytes }) place
 
 -- a byte string that must have k bytes, by the place of its bytes
-module _ (s : List ℕ) (p : ℕ) {start count e : ℕ} (h : Some (record { at = start; left = count }, e) ≡ list_answer p (byte_string s p)) where
-  pub exactly_within : (e ≡ start + count) × (e ≤ length s)
-  exactly_within =
+module _ (s : List ℕ) (p : ℕ) {c : Cursor} {e : ℕ} (h : Some (c, e) ≡ list_answer p (byte_string s p)) where
+  pub bytes_end : e ≡ c.at + c.left
+  bytes_end =
       let b = told_as _ (byte_string s p) h in
       let f = bytes_found s p b.1 in
-      let n : count ≡ length b.0 = ap (λ (r : Cursor). r.left) b.2 in
-      let at : start ≡ p + 8 = ap (λ (r : Cursor). r.at) b.2 in
-      (omega (arith, f.end), f.within)
+      let n : c.left ≡ length b.0 = ap (λ (r : Cursor). r.left) b.2 in
+      let at : c.at ≡ p + 8 = ap (λ (r : Cursor). r.at) b.2 in
+      omega (arith, f.end)
+
+  pub bytes_within : e ≤ length s
+  bytes_within = (bytes_found s p (told_as _ (byte_string s p) h).1).within
 
   module _ (k : ℕ) where
-    pub exactly_other : (count ≡ k → ⊥) → exactly k s p ≡ bad
+    pub exactly_other : (c.left ≡ k → ⊥) → exactly k s p ≡ bad
     unfolding exactly then pick
     exactly_other ne =
         let b = told_as _ (byte_string s p) h in
-        let n : count ≡ length b.0 = ap (λ (r : Cursor). r.left) b.2 in
+        let n : c.left ≡ length b.0 = ap (λ (r : Cursor). r.left) b.2 in
         rw (b.1, ne_eqb (length b.0) k (λ z. ne (n ∙ z)))
 
-    pub exactly_got : count ≡ k → exactly k s p ≡ got (bytes_at s start k) e
+    pub exactly_got : c.left ≡ k → exactly k s p ≡ got (bytes_at s c.at k) e
     unfolding exactly then pick
     exactly_got eq =
         let b = told_as _ (byte_string s p) h in
         let n : length b.0 ≡ k = sym (ap (λ (r : Cursor). r.left) b.2) ∙ eq in
-        let at : start ≡ p + 8 = ap (λ (r : Cursor). r.at) b.2 in
-        let these : b.0 ≡ bytes_at s start k =
-        (bytes_found s p b.1).these ∙ ap (λ (q : ℕ). bytes_at s q (length b.0)) (sym at) ∙ ap (bytes_at s start) n in
+        let at : c.at ≡ p + 8 = ap (λ (r : Cursor). r.at) b.2 in
+        let these : b.0 ≡ bytes_at s c.at k =
+        (bytes_found s p b.1).these ∙ ap (λ (q : ℕ). bytes_at s q (length b.0)) (sym at) ∙ ap (bytes_at s c.at) n in
         rw (b.1, eq-eqb (length b.0) k n, these)
 
     -- they are k
-    pub part_of : count ≡ k → e - start ≡ k
-    part_of eq = omega (arith, exactly_within)
+    pub part_of : c.left ≡ k → e - c.at ≡ k
+    part_of eq = omega (arith, bytes_end)
 
-    pub part_length : count ≡ k → length (bytes_at s start k) ≡ k
-    part_length eq = length_bytes_at s start k (omega (arith, exactly_within))
+    pub part_length : c.left ≡ k → length (bytes_at s c.at k) ≡ k
+    part_length eq = length_bytes_at s c.at k (omega (arith, bytes_end, bytes_within))
 
 -- a step of a cursor that found its element
 pub next_told : {A B : Type 0} (f : A → ℕ → B) (c : Cursor) (x : Res A) {y : Res A} {b : B} {e : ℕ} → y ≡ x → Some (b, e) ≡ decoded_as f x

@@ -119,6 +119,7 @@ pub fn decode_bytes(s: &[u8], at: usize) -> Option<(Cursor, usize)>
 }
 
 // A byte string that must have N bytes, by value.
+#[tactic(auto, using(crate::proofs::Found::bytes_end, crate::proofs::Found::bytes_within))]
 pub fn decode_array<const N: usize>(s: &[u8], at: usize) -> Option<([u8; N], usize)>
     ensures { result ≡ decoded (exactly N s.now at) }
 {

@@ -34,16 +34,17 @@ written_block b is ss = head_bytes b is ss ++ tail_bytes b
 
 pub tail_length : (b : BlockFields) → length (tail_bytes b) ≡ 17 + length (signature_bytes b.signature)
 tail_length b =
-    let low = le 8 b.time_low in
-    let high = le 8 b.time_high in
+    let time = b.meta_creation_time_ns in
+    let low = le 8 time.low in
+    let high = le 8 time.high in
     let m = bool_bytes b.epoch_marker in
     omega (
       arith,
       length-append (low ++ high ++ m) (signature_bytes b.signature),
       length-append (low ++ high) m,
       length-append low high,
-      length_le 8 b.time_low,
-      length_le 8 b.time_high,
+      length_le 8 time.low,
+      length_le 8 time.high,
       length_bool b.epoch_marker,
     )
 

@@ -16,8 +16,8 @@ block_value b is ss =
       reference = b.reference;
       includes = is;
       statements = ss;
-      time_low = b.time_low;
-      time_high = b.time_high;
+      time_low = b.meta_creation_time_ns.low;
+      time_high = b.meta_creation_time_ns.high;
       epoch_marker = b.epoch_marker;
       signature = b.signature;
     }
@@ -39,4 +39,5 @@ head_bytes b includes statements =
     reference_bytes b.reference ++ (le 8 b.include_count ++ includes) ++ (le 8 b.statement_count ++ statements)
 
 abbrev pub tail_bytes : BlockFields → List ℕ
-tail_bytes b = le 8 b.time_low ++ le 8 b.time_high ++ bool_bytes b.epoch_marker ++ signature_bytes b.signature
+tail_bytes b =
+    le 8 b.meta_creation_time_ns.low ++ le 8 b.meta_creation_time_ns.high ++ bool_bytes b.epoch_marker ++ signature_bytes b.signature

@@ -16,20 +16,20 @@ ghost use Rattle.encode_blocks.specs.Whole.{whole, is_whole, laid_out};
 ghost use Rattle.encode_blocks.specs.Blocks.{block_from, head_bytes, tail_bytes};
 
 use bincode::{Decode, past};
+use blocks::TimestampNs;
 use crypto::SignatureBytes;
 use encode::EncodeError;
 use put_records::Encode;
 use statements::BaseStatement;
 use types::BlockReference;
 
-// A block but for its lists, with the numbers of their elements. The creation time is in two halves.
+// A block but for its lists, with the numbers of their elements.
 #[derive(Clone, Copy)]
 pub struct BlockFields {
     pub reference: BlockReference,
     pub include_count: u64,
     pub statement_count: u64,
-    pub time_low: u64,
-    pub time_high: u64,
+    pub meta_creation_time_ns: TimestampNs,
     pub epoch_marker: bool,
     pub signature: SignatureBytes,
 }
@@ -94,8 +94,8 @@ fn put_tail(out: &mut [u8], at: usize, block: BlockFields) -> usize
     requires { at + length (tail_bytes block) ≤ length out.old }
     ensures { Put out.old at (tail_bytes block) out.new result }
 {
-    fields::put_u64(out, at, block.time_low);
-    fields::put_u64(out, at + 8, block.time_high);
+    fields::put_u64(out, at, block.meta_creation_time_ns.low);
+    fields::put_u64(out, at + 8, block.meta_creation_time_ns.high);
     let p = block.epoch_marker.put(out, at + 16);
     block.signature.put(out, p)
 }

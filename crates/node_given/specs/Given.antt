@@ -38,8 +38,7 @@ block_fields_of w signature =
       reference = reference_of w;
       include_count = get_or w 6 0;
       statement_count = get_or w 7 0;
-      time_low = get_or w 8 0;
-      time_high = get_or w 9 0;
+      meta_creation_time_ns = record { low = get_or w 8 0; high = get_or w 9 0 };
       epoch_marker = flagged (get_or w 10 0);
       signature = record { 0 = signature };
     }

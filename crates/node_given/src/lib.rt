@@ -9,6 +9,7 @@ ghost use Rattle.encode_blocks.specs.Whole.{laid_out};
 ghost use Rattle.node_log.specs.Answers.{Gives};
 ghost use Rattle.node_given.specs.Given.{locator_of, range_of, vote_given, vote_with, block_fields_of, encoded_words};
 
+use blocks::TimestampNs;
 use crypto::SignatureBytes;
 use encode::EncodeError;
 use encode_blocks::BlockFields;
@@ -92,8 +93,10 @@ pub fn block_fields(words: &[u64; 11], signature: &[u8; 64]) -> BlockFields
         reference: node_store::reference_at(words, 0),
         include_count: words[6],
         statement_count: words[7],
-        time_low: words[8],
-        time_high: words[9],
+        meta_creation_time_ns: TimestampNs {
+            low: words[8],
+            high: words[9],
+        },
         epoch_marker: words[10] != 0,
         signature: SignatureBytes(*signature),
     }

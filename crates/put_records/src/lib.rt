@@ -89,6 +89,7 @@ impl Encode for BlockReference {
         REFERENCE_SIZE
     }
 
+    #[tactic(auto, using(crate::proofs::Lengths::length_reference))]
     fn put(self, out: &mut [u8], at: usize) -> usize {
         fields::put_u64(out, at, self.authority);
         fields::put_u64(out, at + 8, self.round);
@@ -103,6 +104,7 @@ impl Encode for TransactionLocator {
         LOCATOR_SIZE
     }
 
+    #[tactic(auto, using(crate::proofs::Lengths::length_locator))]
     fn put(self, out: &mut [u8], at: usize) -> usize {
         let p = self.block.put(out, at);
         fields::put_u64(out, p, self.offset);
@@ -117,6 +119,7 @@ impl Encode for TransactionLocatorRange {
         RANGE_SIZE
     }
 
+    #[tactic(auto, using(crate::proofs::Lengths::length_range))]
     fn put(self, out: &mut [u8], at: usize) -> usize {
         let p = self.block.put(out, at);
         fields::put_u64(out, p, self.offset_start_inclusive);

@@ -1,11 +1,10 @@
 -- `bincode::decode_array` meets its contract. Assumes nothing.
 use mathlib.Core.Path.{sym, ◌∙◌}
-use native.Mathlib.Omega.{arith}
 use Rattle.std.proofs.lemmas.List.{length-replicate}
 use Rattle.laws.specs.Bytes.{bytes_at}
 use Rattle.laws.specs.Parse.{answer, then}
 use Rattle.bincode.specs.Bincode.{exactly, byte_string}
-use Rattle.bincode.proofs.Found.{told_none, exactly_other, exactly_got, exactly_within, part_of, part_length}
+use Rattle.bincode.proofs.Found.{told_none, exactly_other, exactly_got, part_of, part_length}
 use Rattle.bincode.proofs.decode_array.Goals as goal
 
 pub returns-in_err-bytes : goal.returns-in_err-bytes
@@ -15,15 +14,6 @@ returns-in_err-bytes g c = rw (c.from_residual.ensures, told_none _ (byte_string
 pub returns-then-bytes : goal.returns-then-bytes
 unfolding answer
 returns-then-bytes g c = rw (exactly_other c.args.s.now c.args.at c.in_ok-bytes.ensures g.row.N c.if-bytes.true)
-
-pub slice_bounds-found-start : goal.slice_bounds-found-start
-slice_bounds-found-start g c = let w = exactly_within c.args.s.now c.args.at c.in_ok-bytes.ensures in omega (arith, w)
-
-pub slice_bounds-found-count : goal.slice_bounds-found-count
-slice_bounds-found-count g c = let w = exactly_within c.args.s.now c.args.at c.in_ok-bytes.ensures in omega (arith, w)
-
-pub slice_bounds-found-end : goal.slice_bounds-found-end
-slice_bounds-found-end g c = let w = exactly_within c.args.s.now c.args.at c.in_ok-bytes.ensures in omega (arith, w)
 
 pub copy_from_slice-requires : goal.copy_from_slice-requires
 unfolding bytes_at

@@ -63,8 +63,8 @@ put-requires c =
 pub returns : goal.returns
 returns c =
     let block = c.args.block in
-    let low = put_number 8 block.time_low c.put_u64.ensures refl in
+    let low = put_number 8 block.meta_creation_time_ns.low c.put_u64.ensures refl in
     then_put
-    (then_put (then_put low (put_number 8 block.time_high c.put_u64-2.ensures (omega arith)) (omega (arith, c.requires)))
+    (then_put (then_put low (put_number 8 block.meta_creation_time_ns.high c.put_u64-2.ensures (omega arith)) (omega (arith, c.requires)))
     c.put-p.ensures (omega (arith, c.requires)))
     c.put.ensures (omega (arith, c.requires))

@@ -1,19 +1,8 @@
 -- `put` of a reference meets its contract. Assumes nothing.
 use native.Mathlib.Omega.{arith}
 use Rattle.types.specs.Records.{reference_bytes}
-use Rattle.put_records.proofs.Lengths.{length_reference}
 use Rattle.put_records.proofs.Puts.{then_put, put_number}
 use Rattle.put_records.proofs.BlockReferenceEncode.put.Goals as goal
-
-pub put_u64-requires : goal.put_u64-requires
-put_u64-requires c = omega (arith, length_reference c.args.self)
-
-pub put_u64-requires-2 : goal.put_u64-requires-2
-put_u64-requires-2 c = omega (arith, length_reference c.args.self)
-
-pub put-requires : goal.put-requires
-put-requires c =
-    omega (arith, length_reference c.args.self)
 
 pub returns : goal.returns
 unfolding reference_bytes

@@ -27,8 +27,10 @@ use Rattle.state.proofs.Checks.{rows_pass}
 use Rattle.replay_log.proofs.Scanning.{replayed_from, replayed_whole, entry_refused, entry_passes, nothing_left, walk_refused}
 use Rattle.recovery.proofs.Answering.{committee_small}
 use Rattle.bounds.specs.Bounds.{Enough, Few, Small, AllSmall, Bounds}
-use Rattle.bounds.proofs.Counts.{either, pending_either, sub_dags, few}
-use Rattle.bounds.proofs.Entries.{references_more, Sized, classify_sized}
+use Rattle.bounds.proofs.Counts.{either, pending_either, sub_dags, pending_few, few}
+use Rattle.refusal.proofs.Numbers.{numbered}
+use Rattle.bounds.proofs.Tabled.{recovery_tabled}
+use Rattle.bounds.proofs.Entries.{references_more, Fits, Sized, classify_sized}
 
 -- a check, and what the call goes on with where it passes
 checked : {A : Type 0} (P : A → Type 0) (n : ℕ) (refusal : ℕ → A) (rest : A) → P (refusal n) → (n ≡ 0 → P rest) → P (unless n refusal rest)
@@ -101,25 +103,25 @@ module _ (k : ℕ) (s : List ℕ) (used size own : ℕ) (lent : Lent) where
   record Held (e : ℕ) (l : List ReplayEntry) : Type 0 where
     within : e ≤ used
     entries : 16 * length l ≤ e
-    references : 16 * length (sub_dags (commits l)) ≤ e
-    small : AllSmall size used l
+    references : AllBytes s → 16 * length (sub_dags (commits l)) ≤ e
+    small : AllBytes s → AllSmall size used l
 
-  held_few : {e : ℕ} {l : List ReplayEntry} → Held e l → Few used l
-  held_few {e} {l} h = few used l (omega arith) (omega arith)
+  held_few : {e : ℕ} {l : List ReplayEntry} → Held e l → AllBytes s → Few used l
+  held_few {e} {l} h all = few used l (omega arith) (omega (arith, h.references all))
 
   -- what is to hold of an answer
   abbrev Outcome : Recovery → Type 0
   Outcome (refused n p) = Number n
-  Outcome (recovered w e l) = (used ≤ 2 ^ 40) × (size ≤ 128) × (AllBytes s → Held e l)
+  Outcome (recovered w e l) = (used ≤ 2 ^ 40) × (size ≤ 128) × Held e l
 
-  rows_number : (l : List ReplayEntry) → (AllBytes s → Few used l) → Number (rows_check lent l)
+  rows_number : {e : ℕ} (l : List ReplayEntry) → Held e l → Number (rows_check lent l)
   unfolding rows_check
-  rows_number l counts =
+  rows_number l held =
       let Most : ℕ → Type 0 = λ n. n ≤ 18 in
       record {
         most = either Most _ (either Most _ (either Most _ (either Most _ (omega arith) (omega arith)) (omega arith)) (omega arith)) (omega arith);
         rows = λ all enough is.
-            let rows : Few used l = counts all in
+            let rows : Few used l = held_few held all in
             let none : rows_check lent l ≡ 0 = rows_pass lent l (omega arith) (omega arith) (omega arith) (omega arith) in
             omega arith;
       }
@@ -129,25 +131,24 @@ module _ (k : ℕ) (s : List ℕ) (used size own : ℕ) (lent : Lent) where
   -- what is to hold of an entry's check, with the entries before it
   abbrev Checked : List ReplayEntry → Entry → Classified → Type 0
   Checked before a (refuse n) = Number n
-  Checked before a (item i) = AllBytes s → Held (end_of a) (before ++ (record { entry = a; item = i } ∷ []))
+  Checked before a (item i) = Held (end_of a) (before ++ (record { entry = a; item = i } ∷ []))
 
-  module _ (image : used ≤ length s) (e p : ℕ) (from : e ≤ p) (before : List ReplayEntry) (held : AllBytes s → Held e before)
+  module _ (image : used ≤ length s) (e p : ℕ) (from : e ≤ p) (before : List ReplayEntry) (held : Held e before)
       (a : Entry) (at : Listed k s used p a) where
     entry_held : (i : Item) → Sized a (item i) → block_check size own (blocks before) (block_in i) ≡ 0 → Checked before a (item i)
     unfolding end_of payload_at
-    entry_held i fits passed all =
+    entry_held i sized passed =
         let x : ReplayEntry = record { entry = a; item = i } in
-        let f = fits (subst AllBytes (sym at.payload) (bytes_part s _ _ all)) in
-        let h = held all in
+        let fits : AllBytes s → Fits x = λ all. sized (subst AllBytes (sym at.payload) (bytes_part s _ _ all)) in
         let ends = at.ends image in
         let more = length-append (sub_dags (commits before)) (sub_dags (commits (x ∷ []))) in
         record {
           within = omega arith;
-          entries = omega (arith, length-append before (x ∷ []));
-          references = omega (arith, ap length (references_more before (x ∷ [])));
-          small =
-              small_one size used before x h.small
-              (record { start = omega arith; authority = block_below size own (blocks before) (block_in i) passed; round = f.round });
+          entries = omega (arith, held.entries, length-append before (x ∷ []));
+          references = λ all. omega (arith, held.references all, (fits all).references, more, ap length (references_more before (x ∷ [])));
+          small = λ all.
+              small_one size used before x (held.small all)
+              (record { start = omega arith; authority = block_below size own (blocks before) (block_in i) passed; round = (fits all).round });
         }
 
     entry_checked : Checked before a (entry_check size own lent before a)
@@ -161,10 +162,10 @@ module _ (k : ℕ) (s : List ℕ) (used size own : ℕ) (lent : Lent) where
             (checked (Checked before a) _ _ _ (low (block_number_lem size own (blocks before) (block_in i)))
             (λ passed.
             let now = entry_held i sized passed in
-            checked (Checked before a) _ _ _ (rows_number _ (λ all. held_few (now all))) (λ z. now)))
+            checked (Checked before a) _ _ _ (rows_number _ now) (λ z. now)))
 
     -- the replay is refused at it, or goes on behind it
-    entry_replays : (w : Walk) → ((l : List ReplayEntry) → (AllBytes s → Held (end_of a) l) → Outcome (replayed_from size own lent l w))
+    entry_replays : (w : Walk) → ((l : List ReplayEntry) → Held (end_of a) l → Outcome (replayed_from size own lent l w))
         → Outcome (replayed_from size own lent before (listing a w))
     entry_replays w later = by (entry_check size own lent before a) refl entry_checked
       where
@@ -175,7 +176,7 @@ module _ (k : ℕ) (s : List ℕ) (used size own : ℕ) (lent : Lent) where
   -- ---- The walk
 
   module _ (sound : Sound k used (length s)) (committee : size ≤ 128) where
-    stops : (w : Stop) (e : ℕ) (l : List ReplayEntry) → (AllBytes s → Held e l) → Outcome (decoded w e l)
+    stops : (w : Stop) (e : ℕ) (l : List ReplayEntry) → Held e l → Outcome (decoded w e l)
     unfolding decoded
     stops w e l held = by (bad_payload (pending l)) refl
       where
@@ -183,13 +184,13 @@ module _ (k : ℕ) (s : List ℕ) (used size own : ℕ) (lent : Lent) where
         by none f = rw (f, decoded) (sound.most, committee, held)
         by (some q) f = rw (f, decoded) (low (omega arith))
 
-    replays : (n e p : ℕ) → e ≤ p → (before : List ReplayEntry) → (AllBytes s → Held e before)
+    replays : (n e p : ℕ) → e ≤ p → (before : List ReplayEntry) → Held e before
         → Outcome (replayed_from size own lent before (follow k s used n e (move_at k s used e p)))
     unfolding follow
     replays zero e p from before held = rw (nothing_left size own lent before ZEROS e) (stops ZEROS e before held)
     replays (suc n) e p from before held = by (replays n) (move_at k s used e p) refl (move_low k s used e p)
       where
-        by : ((e p : ℕ) → e ≤ p → (before : List ReplayEntry) → (AllBytes s → Held e before)
+        by : ((e p : ℕ) → e ≤ p → (before : List ReplayEntry) → Held e before
             → Outcome (replayed_from size own lent before (follow k s used n e (move_at k s used e p))))
             → (m : Move) → move_at k s used e p ≡ m → LowMove m → Outcome (replayed_from size own lent before (follow k s used (suc n) e m))
         by later (stop w) is number = rw (nothing_left size own lent before w e) (stops w e before held)
@@ -217,7 +218,7 @@ module _ (k : ℕ) (s : List ℕ) (used size own : ℕ) (lent : Lent) where
       (λ passed.
       rw (replayed_whole size own lent (walk_at k s used 0 0))
       (replays (passed_sound k used (length s) log) (committee_small size own passed) _ 0 0 (omega arith) []
-      (λ all. record { within = omega arith; entries = omega arith; references = omega arith; small = tt }))))
+      (record { within = omega arith; entries = omega arith; references = λ all. omega arith; small = λ all. tt }))))
 
   -- the same, for an answer that it is known to give
   so : {r : Recovery} → recover k s used size own lent ≡ r → Outcome r
@@ -227,9 +228,11 @@ pub bounds : Bounds
 bounds =
     record {
       enough = λ k s used size own lent p all enough h. (so k s used size own lent h).rows all enough refl;
+      numbered = λ k s used size own lent n p h. numbered (recovery_tabled k s used size own lent h);
       number = λ k s used size own lent n p h. (so k s used size own lent h).most;
       used = λ k s used size own lent w e l h. (so k s used size own lent h).0;
       size = λ k s used size own lent w e l h. (so k s used size own lent h).1;
-      few = λ k s used size own lent w e l all h. held_few k s used size own lent ((so k s used size own lent h).2 all);
-      small = λ k s used size own lent w e l all h. small_pending size used l ((so k s used size own lent h).2 all).small;
+      pending = λ k s used size own lent w e l h. let held = (so k s used size own lent h).2 in omega (arith, held.entries, held.within, pending_few l);
+      few = λ k s used size own lent w e l all h. held_few k s used size own lent (so k s used size own lent h).2 all;
+      small = λ k s used size own lent w e l all h. small_pending size used l ((so k s used size own lent h).2.small all);
     }

@@ -28,7 +28,7 @@ pub pending_either : (P : List ReplayEntry → Type 0) (x : ReplayEntry) (l : Li
 unfolding pending
 pending_either P x l with_it without = either P _ (either P _ with_it without) without
 
-pending_few : (l : List ReplayEntry) → length (pending l) ≤ length l
+pub pending_few : (l : List ReplayEntry) → length (pending l) ≤ length l
 unfolding pending
 pending_few [] = omega arith
 pending_few (x ∷ l) =

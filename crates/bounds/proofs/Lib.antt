@@ -1,3 +1,4 @@
 pub mod Counts
 pub mod Entries
 pub mod Bounds
+pub mod Tabled

@@ -3,6 +3,8 @@
 use Rattle.std.specs.Prelude.{◌≡◌, List, [], ◌∷◌, ℕ, ◌*◌, ◌^◌, ◌/◌, ◌≤◌, ◌<◌, length}
 use Rattle.std.proofs.Math.Option.{some}
 use Rattle.laws.specs.Bytes.{AllBytes}
+use Rattle.refusal.specs.Refusals as refusals
+use Rattle.refusal.specs.Refusals.{refusal_of}
 use Rattle.types.specs.declared.BlockReference.{BlockReference}
 use Rattle.wal.specs.Walk.{Stop}
 use Rattle.replay.specs.Items.{ReplayEntry, block_in}
@@ -40,11 +42,17 @@ pub record Bounds : Type 0 where
       → recover k s used size own lent ≡ refused 15 p → ⊥
   -- 18 is the highest number of a refusal
   pub number : (k : ℕ) (s : List ℕ) (used size own : ℕ) (lent : Lent) (n p : ℕ) → recover k s used size own lent ≡ refused n p → n ≤ 18
+  -- and it is the number of the refusal that a call answers
+  pub numbered : (k : ℕ) (s : List ℕ) (used size own : ℕ) (lent : Lent) (n p : ℕ) → recover k s used size own lent ≡ refused n p
+      → refusals.number (refusal_of n) ≡ n
   -- what an accepted recovery has passed: the checks 2 and 18
   pub used : (k : ℕ) (s : List ℕ) (used size own : ℕ) (lent : Lent) (w : Stop) (e : ℕ) (l : List ReplayEntry)
       → recover k s used size own lent ≡ recovered w e l → used ≤ 2 ^ 40
   pub size : (k : ℕ) (s : List ℕ) (used size own : ℕ) (lent : Lent) (w : Stop) (e : ℕ) (l : List ReplayEntry)
       → recover k s used size own lent ≡ recovered w e l → size ≤ 128
+  -- a row for each 16 bytes
+  pub pending : (k : ℕ) (s : List ℕ) (used size own : ℕ) (lent : Lent) (w : Stop) (e : ℕ) (l : List ReplayEntry)
+      → recover k s used size own lent ≡ recovered w e l → 16 * length (rules.pending l) ≤ used
   pub few : (k : ℕ) (s : List ℕ) (used size own : ℕ) (lent : Lent) (w : Stop) (e : ℕ) (l : List ReplayEntry)
       → AllBytes s → recover k s used size own lent ≡ recovered w e l → Few used l
   pub small : (k : ℕ) (s : List ℕ) (used size own : ℕ) (lent : Lent) (w : Stop) (e : ℕ) (l : List ReplayEntry)

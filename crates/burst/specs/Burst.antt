@@ -1,16 +1,15 @@
 -- Request 11, "Four damaged bytes never pass": "if an entry reads well and only its payload is then changed, within four consecutive
 -- bytes, in at least one bit, reading it gives 7, for every payload length and every exponent". `Request11`, at the end, is what is
 -- proved; `Limits` says what is not promised.
-use Rattle.std.specs.Prelude.{◌≡◌, List, [], ◌∷◌, ◌++◌, ℕ, ◌+◌, ◌≤◌, ◌<◌, length, get_or}
+use Rattle.std.specs.Prelude.{◌≡◌, List, [], ◌∷◌, ◌++◌, ℕ, ◌+◌, ◌≤◌, ◌<◌, length, get_or, Ok, Err}
 use Rattle.laws.specs.Bytes.{AllBytes}
+use Rattle.refusal.specs.Refusals.{refusal_of}
 use Rattle.wal_position.specs.Checks.{unless}
 use Rattle.wal_reader.specs.Entries.{Entry}
 use Rattle.wal_reader.specs.Answers.{read_answer}
 use Rattle.wal_reader.specs.declared.WalEntry.{WalEntry}
-use Rattle.wal_reader.specs.declared.Found.TheVariants.{Entry as Found-as-Entry, Refused as Found-as-Refused}
 use Rattle.wal.specs.Walk.{Stop, Ending, walk}
-use Rattle.wal.specs.Answers.{walk_answer}
-use Rattle.wal.specs.declared.Walked.TheVariants.{Refused as Walked-as-Refused}
+use Rattle.wal.specs.Answers.{refused_at, walk_answer}
 use Rattle.committee.specs.Committee.{committee_check}
 use Rattle.replay.specs.Items.{ReplayEntry}
 use Rattle.replay.specs.Recovery.{Lent, scan, scanned, replayed, recover, refused, recovered}
@@ -37,8 +36,8 @@ pub record Burst (width at n : ℕ) (s t : List ℕ) : Type 0 where
 -- read have passed then, so that k, used and p need no hypotheses of their own.
 abbrev pub ReadDetects : ℕ → Type 0
 ReadDetects width =
-    (k : ℕ) (s : List ℕ) → AllBytes s → (used p : ℕ) (e : WalEntry) → read_answer k s used p ≡ Found-as-Entry e
-    → (t : List ℕ) → AllBytes t → Burst width (p + 16) e.len s t → read_answer k t used p ≡ Found-as-Refused 7
+    (k : ℕ) (s : List ℕ) → AllBytes s → (used p : ℕ) (e : WalEntry) → read_answer k s used p ≡ Ok e
+    → (t : List ℕ) → AllBytes t → Burst width (p + 16) e.len s t → read_answer k t used p ≡ Err (refusal_of 7)
 
 -- ---- Walk and recovery
 
@@ -47,7 +46,7 @@ pub record Detected (k : ℕ) (t : List ℕ) (used : ℕ) (before : List Entry) 
   -- the walk lists `before`, and is then refused
   pub walks : walk k t used ≡ record { entries = before; ending = Ending.refused 7 a.start }
   -- what `wal::walk` answers
-  pub answers : walk_answer k t used ≡ Walked-as-Refused 7 (record { 0 = a.start })
+  pub answers : walk_answer k t used ≡ Err (refused_at 7 a.start)
   -- Recovery gives what its checks give for the entries `before`, "in log order", and the walk's 7 behind them. `recovery::recover`
   -- answers by `recover`, and a refused one leaves its tables all zero.
   pub recovers : (size own : ℕ) (lent : Lent) → recover k t used size own lent

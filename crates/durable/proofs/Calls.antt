@@ -1,17 +1,16 @@
 -- What the calls answer, of an image that holds the first L bytes. Assumes nothing.
 use mathlib.Core.Path.{◌≡◌, sym, ap, ◌∙◌, subst}
 use mathlib.Core.List.{List}
-use Prim.Native.Nat.{ℕ}
-use native.Mathlib.Omega.{arith}
-use Rattle.wal_position.specs.declared.WalPosition.{WalPosition}
+use Prim.Native.Nat.{ℕ, ◌-◌}
+use Rattle.std.proofs.Common.{Ok, Err}
 use Rattle.wal.specs.Walk.{Stop, Ending, stopped, walk}
-use Rattle.wal.specs.Answers.{walked_of}
-use Rattle.wal.specs.declared.Stop as code
-use Rattle.wal.specs.declared.Walked.TheVariants.{Stopped as Walked-as-Stopped, Refused as Walked-as-Refused}
+use Rattle.wal.specs.Answers.{stop_of, refused_at, walked_of}
+use Rattle.wal.specs.declared.RefusedAt.{RefusedAt}
+use Rattle.wal.specs.declared.Walked.{Walked}
 use Rattle.replay.specs.Items.{ReplayEntry}
 use Rattle.replay.specs.Recovery.{Lent, Recovery, refused, recovered, recover}
 use Rattle.recovered.specs.declared.Recovered.{Recovered}
-use Rattle.recovered.specs.Answers.{refused_answer}
+use Rattle.recovered.specs.Answers.{refused_with}
 use Rattle.replay_log.specs.Answers.{recovered_of, Tables, rows_lent, Answers, RecoverAnswers}
 use Rattle.durable.specs.Durable.{HoldsFirst, CutAt, CallServed, Called}
 use Rattle.durable.proofs.Recoveries.{NotRefused}
@@ -19,39 +18,34 @@ use Rattle.durable.proofs.Images.{walk_stops, walk_refused, recovers, recovery_r
 
 -- ---- What an answer says of its definition
 
-ending_stopped : (used : ℕ) (x : Ending) {v : code.Stop} {e : WalPosition} {unread : ℕ} → walked_of used x ≡ Walked-as-Stopped v e unread
-    → (w : Stop) × (x ≡ stopped w e.0)
+ending_stopped : (used : ℕ) (x : Ending) {w : Walked} → walked_of used x ≡ Ok w → (v : Stop) × (x ≡ stopped v w.end.0)
 unfolding walked_of
-ending_stopped used (stopped w f) {v} {e} {unread} h =
-    let same : record { 0 = f } ≡ e = cc in
-    (w, ap (stopped w) (ap (λ (q : WalPosition). q.0) same))
-ending_stopped used (Ending.refused n p) h = absurd (let z : ◌≡◌ {A = ℕ} 0 1 = cc in omega arith)
+ending_stopped used (stopped v e) {w} h =
+    let same : record { stop = stop_of v; end = record { 0 = e }; unread = used - e } ≡ w = cc in
+    (v, ap (λ (w : Walked). stopped v w.end.0) same)
+ending_stopped used (Ending.refused n p) h = absurd (cc)
 
-ending_refused : (used : ℕ) (x : Ending) {n : ℕ} {p : WalPosition} → walked_of used x ≡ Walked-as-Refused n p → x ≡ Ending.refused n p.0
-unfolding walked_of
-ending_refused used (stopped w e) h = absurd (let z : ◌≡◌ {A = ℕ} 0 1 = cc in omega arith)
-ending_refused used (Ending.refused m q) {n} {p} h =
-    let number : m ≡ n = cc in
-    let same : record { 0 = q } ≡ p = cc in
-    ap (λ (i : ℕ). Ending.refused i q) number ∙ ap (Ending.refused n) (ap (λ (r : WalPosition). r.0) same)
+ending_refused : (used : ℕ) (x : Ending) {f : RefusedAt} → walked_of used x ≡ Err f → (n : ℕ) × (x ≡ Ending.refused n f.start.0)
+unfolding walked_of refused_at
+ending_refused used (stopped v e) h = absurd (cc)
+ending_refused used (Ending.refused n p) {f} h =
+    let same : refused_at n p ≡ f = cc in
+    (n, ap (λ (f : RefusedAt). Ending.refused n f.start.0) same)
 
-answer_stopped : (used own : ℕ) (x : Recovery) {v : code.Stop} {e : WalPosition} {unread : ℕ}
-    → (recovered_of used own x).walked ≡ Walked-as-Stopped v e unread
-    → (w : Stop) × (m : List ReplayEntry) × (x ≡ recovered w e.0 m)
-unfolding recovered_of refused_answer walked_of
-answer_stopped used own (refused n p) h = absurd (let z : ◌≡◌ {A = ℕ} 0 1 = cc in omega arith)
-answer_stopped used own (recovered w f m) {v} {e} {unread} h =
-    let same : record { 0 = f } ≡ e = cc in
-    (w, m, ap (λ (g : ℕ). recovered w g m) (ap (λ (q : WalPosition). q.0) same))
+answer_stopped : (used own : ℕ) (x : Recovery) {w : Walked} → (recovered_of used own x).walked ≡ Ok w
+    → (v : Stop) × (m : List ReplayEntry) × (x ≡ recovered v w.end.0 m)
+unfolding recovered_of refused_with walked_of
+answer_stopped used own (refused n p) h = absurd (cc)
+answer_stopped used own (recovered v e m) {w} h =
+    let same : record { stop = stop_of v; end = record { 0 = e }; unread = used - e } ≡ w = cc in
+    (v, m, ap (λ (w : Walked). recovered v w.end.0 m) same)
 
-answer_refused : (used own : ℕ) (x : Recovery) {n : ℕ} {p : WalPosition} → (recovered_of used own x).walked ≡ Walked-as-Refused n p
-    → x ≡ refused n p.0
-unfolding recovered_of refused_answer walked_of
-answer_refused used own (refused m q) {n} {p} h =
-    let number : m ≡ n = cc in
-    let same : record { 0 = q } ≡ p = cc in
-    ap (λ (i : ℕ). refused i q) number ∙ ap (refused n) (ap (λ (r : WalPosition). r.0) same)
-answer_refused used own (recovered w e l) h = absurd (let z : ◌≡◌ {A = ℕ} 0 1 = cc in omega arith)
+answer_refused : (used own : ℕ) (x : Recovery) {f : RefusedAt} → (recovered_of used own x).walked ≡ Err f → (n : ℕ) × (x ≡ refused n f.start.0)
+unfolding recovered_of refused_with refused_at walked_of
+answer_refused used own (refused n p) {f} h =
+    let same : refused_at n p ≡ f = cc in
+    (n, ap (λ (f : RefusedAt). refused n f.start.0) same)
+answer_refused used own (recovered v e l) h = absurd (cc)
 
 -- ---- The answers
 
@@ -67,30 +61,32 @@ module _ (k L : ℕ) (s : List ℕ) (size own : ℕ) (lent : Lent) {word : Stop}
     walked : (recovered_of used own (recover k t used size own lent)).walked ≡ r.walked
     walked = ap (λ (x : Recovered). x.walked) (sym says_lent.answer)
 
-    call_stopped : (v : code.Stop) (e : WalPosition) (unread : ℕ) → r.walked ≡ Walked-as-Stopped v e unread
-        → CallServed k L size own lent l t used e.0 before r after
-    call_stopped v e unread is =
+    call_stopped : (w : Walked) → r.walked ≡ Ok w → CallServed k L size own lent l t used w.end.0 before r after
+    call_stopped w is =
         let it = answer_stopped used own (recover k t used size own lent) (walked ∙ is) in
         record {
           word = it.0;
           entries = it.1;
-          served = recovers k L s size own lent at t used h it.0 e.0 it.1 it.2;
+          served = recovers k L s size own lent at t used h it.0 w.end.0 it.1 it.2;
           answers = subst (λ (x : Recovery). Answers used own x before r after) it.2 says_lent;
         }
 
-    call_refused : (n : ℕ) (p : WalPosition) → r.walked ≡ Walked-as-Refused n p → CutAt k L s t used p.0
-    call_refused n p is =
-        recovery_refused k L s size own lent at t used h n p.0
-        (answer_refused used own (recover k t used size own lent) (walked ∙ is))
+    call_refused : (f : RefusedAt) → r.walked ≡ Err f → CutAt k L s t used f.start.0
+    call_refused f is =
+        let it = answer_refused used own (recover k t used size own lent) (walked ∙ is) in
+        recovery_refused k L s size own lent at t used h it.0 f.start.0 it.1
 
   pub called : Called k L s size own lent l t used
   called =
       record {
         walk_stopped =
-            λ v e unread is.
+            λ w is.
             let it = ending_stopped used (walk k t used).ending is in
-            walk_stops k L s size own lent at t used h it.0 e.0 it.1;
-        walk_refused = λ n p is. walk_refused k L s size own lent at t used h n p.0 (ending_refused used (walk k t used).ending is);
+            walk_stops k L s size own lent at t used h it.0 w.end.0 it.1;
+        walk_refused =
+            λ f is.
+            let it = ending_refused used (walk k t used).ending is in
+            walk_refused k L s size own lent at t used h it.0 f.start.0 it.1;
         recover_stopped = call_stopped;
         recover_refused = call_refused;
       }

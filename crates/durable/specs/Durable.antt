@@ -4,13 +4,12 @@
 -- is cut at E, before anything is appended there. `Durability` is what is proved: these cuts lie at or past L, and the entries that are
 -- recovered begin with those recovered at L. (An own block or a state behind L may still drop rows of theirs, as the rules have it; and
 -- behind L an entry that was lost may be passed over.) No refusal is named by its number, except 15, at which no cut is made.
-use Rattle.std.specs.Prelude.{◌≡◌, Bool, true, false, List, [], ◌∷◌, ◌++◌, ℕ, zero, suc, ◌≤◌, ◌<◌, ◌^◌, min, eqb, length, take}
-use Rattle.wal_position.specs.declared.WalPosition.{WalPosition}
+use Rattle.std.specs.Prelude.{◌≡◌, Bool, true, false, List, [], ◌∷◌, ◌++◌, ℕ, zero, suc, ◌≤◌, ◌<◌, ◌^◌, min, eqb, length, take, Ok, Err}
 use Rattle.wal_reader.specs.Entries.{Entry, end_of}
 use Rattle.wal.specs.Walk.{Stop, END, Ending, stopped, walk}
 use Rattle.wal.specs.Answers.{walked_of, walk_answer}
-use Rattle.wal.specs.declared.Stop as code
-use Rattle.wal.specs.declared.Walked.TheVariants.{Stopped as Walked-as-Stopped, Refused as Walked-as-Refused}
+use Rattle.wal.specs.declared.RefusedAt.{RefusedAt}
+use Rattle.wal.specs.declared.Walked.{Walked}
 use Rattle.replay.specs.Items.{ReplayEntry}
 use Rattle.replay.specs.Recovery.{Lent, Recovery, refused, recovered, recover}
 use Rattle.recovered.specs.declared.Recovered.{Recovered}
@@ -144,15 +143,13 @@ pub record CallServed (k L size own : ℕ) (lent : Lent) (l : List ReplayEntry) 
 
 -- the same of the answers of `wal::walk`, and of `recovery::recover` with tables of the size that recovery had at L
 pub record Called (k L : ℕ) (s : List ℕ) (size own : ℕ) (lent : Lent) (l : List ReplayEntry) (t : List ℕ) (used : ℕ) : Type 0 where
-  pub walk_stopped : (v : code.Stop) (e : WalPosition) (unread : ℕ) → walk_answer k t used ≡ Walked-as-Stopped v e unread → L ≤ e.0
-  pub walk_refused : (n : ℕ) (p : WalPosition) → walk_answer k t used ≡ Walked-as-Refused n p → CutAt k L s t used p.0
+  pub walk_stopped : (w : Walked) → walk_answer k t used ≡ Ok w → L ≤ w.end.0
+  pub walk_refused : (f : RefusedAt) → walk_answer k t used ≡ Err f → CutAt k L s t used f.start.0
   pub recover_stopped : (before : Tables) (r : Recovered) (after : Tables) → rows_lent before ≡ lent
-      → RecoverAnswers k t used size own before r after
-      → (v : code.Stop) (e : WalPosition) (unread : ℕ) → r.walked ≡ Walked-as-Stopped v e unread
-      → CallServed k L size own lent l t used e.0 before r after
+      → RecoverAnswers k t used size own before r after → (w : Walked) → r.walked ≡ Ok w
+      → CallServed k L size own lent l t used w.end.0 before r after
   pub recover_refused : (before : Tables) (r : Recovered) (after : Tables) → rows_lent before ≡ lent
-      → RecoverAnswers k t used size own before r after
-      → (n : ℕ) (p : WalPosition) → r.walked ≡ Walked-as-Refused n p → CutAt k L s t used p.0
+      → RecoverAnswers k t used size own before r after → (f : RefusedAt) → r.walked ≡ Err f → CutAt k L s t used f.start.0
 
 -- ---- The theorem
 

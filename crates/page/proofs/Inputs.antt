@@ -36,7 +36,7 @@ program_rows_lem t p u c i = rw (p, u, c, i)
 prints_page : (input : List ℕ) → length input ≤ 65536 → 3 ≤ length input
     → input_page input
     ≡ page_of
-    (recover (get_or input 0 0) (take (length input - 3) (drop 3 input)) (length input - 3) (get_or input 1 0) (get_or input 2 0) program_rows)
+    (recover (get_or input 0 0) (take (length input - 3) (drop 3 input)) (length (take (length input - 3) (drop 3 input))) (get_or input 1 0) (get_or input 2 0) program_rows)
 unfolding input_page input_recovery pick read_input
 prints_page [] h some = absurd (omega arith)
 prints_page (k ∷ []) h some = absurd (omega arith)
@@ -46,10 +46,10 @@ prints_page (k ∷ size ∷ own ∷ image) h some =
     rw (le-leb (length (k ∷ size ∷ own ∷ image)) 65536 h, n, take_all (length image) image (omega arith))
 
 -- the page of the log in an input, with tables of 32,768 words
-pub page_printed : (input : List ℕ) {before after : Tables} {out out' : List ℕ} {r : Paged} → length input ≤ 65536 → 3 ≤ length input
-    → FillsRecoveryPage (get_or input 0 0) (take (length input - 3) (drop 3 input)) (length input - 3) (get_or input 1 0) (get_or input 2 0)
-    before out r after out'
+pub page_printed : (input : List ℕ) {k size own : ℕ} {before after : Tables} {out out' : List ℕ} {r : Paged} → length input ≤ 65536 → 3 ≤ length input
+    → k ≡ get_or input 0 0 → size ≡ get_or input 1 0 → own ≡ get_or input 2 0
+    → FillsRecoveryPage k (take (length input - 3) (drop 3 input)) (length (take (length input - 3) (drop 3 input))) size own before out r after out'
     → length before.pending ≡ 32768 → length before.unprocessed ≡ 32768 → length before.committed ≡ 32768
     → length before.index ≡ 32768 → Put 0 (input_page input) out out' r.length
-page_printed input {before} h some fills p u c i =
-    rw (prints_page input h some, ← program_rows_lem before p u c i) fills.text
+page_printed input {before = before} h some is_k is_size is_own fills p u c i =
+    rw (prints_page input h some, ← is_k, ← is_size, ← is_own, ← program_rows_lem before p u c i) fills.text

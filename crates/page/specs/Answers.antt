@@ -1,19 +1,21 @@
 -- What the calls are held to: the answer, and what they leave in the tables and the buffer that they are lent.
-use Rattle.std.specs.Prelude.{◌≡◌, List, ℕ}
+use Rattle.std.specs.Prelude.{◌≡◌, List, ℕ, Result, Ok, Err}
+use Rattle.refusal.specs.declared.Refusal.{Refusal}
+use Rattle.refusal.specs.Refusals.{refusal_of}
 use Rattle.text.specs.Put.{Put}
 use Rattle.replay.specs.Recovery.{Recovery, refused, recovered, recover}
 use Rattle.replay_log.specs.Answers.{Tables, rows_lent, tables_after}
 use Rattle.page_text.specs.Page.{page_of}
 use Rattle.page.specs.declared.Paged.{Paged}
 
--- the number of a refusal, 0 where there is none
-unfoldable pub number_of : Recovery → ℕ
-number_of (refused n p) = n
-number_of (recovered w e l) = 0
+-- the refusal, if there is one
+unfoldable pub refusal_in : Recovery → Result Unit Refusal
+refusal_in (refused n p) = Err (refusal_of n)
+refusal_in (recovered w e l) = Ok tt
 
 -- of a recovery that comes to x: the answer r, and the tables and the buffer before and after
 pub record FillsPage (x : Recovery) (before : Tables) (out : List ℕ) (r : Paged) (after : Tables) (out' : List ℕ) : Type 0 where
-  pub number : r.number ≡ number_of x
+  pub refusal : r.recovered ≡ refusal_in x
   pub text : Put 0 (page_of x) out out' r.length
   pub words : after ≡ tables_after x before
 

@@ -4,11 +4,15 @@
 
 ghost use Rattle.std.specs.Prelude.{◌≤◌};
 ghost use Rattle.text.specs.Put.{Put};
+ghost use Rattle.wal_position.specs.Logs.{of_log};
 ghost use Rattle.replay_log.specs.Answers.{tables};
 ghost use Rattle.page_text.specs.Page.{input_page};
 ghost use Rattle.page.specs.Answers.{FillsRecoveryPage};
 
-use wal::Walked;
+use page_lines::put_number_line;
+use refusal::Refusal;
+use rows::rows_of;
+use wal::Log;
 
 // The most bytes of input: exponent, committee size, own authority and the image.
 const INPUT_MAX: usize = 65536;
@@ -16,19 +20,17 @@ const INPUT_MAX: usize = 65536;
 // The words of a table of 4,096 rows.
 const TABLE_WORDS: usize = 32768;
 
-// The number of a refused recovery, 0 where it is accepted, and the length of the whole text.
+// Whether the recovery was accepted, and the length of the whole text.
 #[derive(Clone, Copy)]
 pub struct Paged {
-    pub number: u8,
+    pub recovered: Result<(), Refusal>,
     pub length: usize,
 }
 
 // Recovers what a log holds, as `recovery::recover` does into the same tables, and fills out with the page:
 // what is pending, or the number of a refusal.
 pub fn recovery_page(
-    k: u64,
-    image: &[u8],
-    used: u64,
+    log: &Log<'_>,
     size: u64,
     own: u64,
     pending: &mut [u64],
@@ -37,41 +39,34 @@ pub fn recovery_page(
     index: &mut [u64],
     out: &mut [u8],
 ) -> Paged
-    ensures { FillsRecoveryPage k image.now used size own
+    ensures { of_log FillsRecoveryPage log.now size own
         (tables pending.old unprocessed.old committed.old index.old)
         out.old result
         (tables pending.new unprocessed.new committed.new index.new)
         out.new }
 {
-    let r = recovery::recover(
-        k,
-        image,
-        used,
-        size,
-        own,
-        pending,
-        unprocessed,
-        committed,
-        index,
-    );
-    let walked = r.walked;
-    match walked {
-        Walked::Refused(number, _) => {
-            let length = page_lines::put_number_line(out, number);
-            Paged { number, length }
-        }
-        Walked::Stopped(stop, _, _) => {
-            let s = r.replay;
-            let blocks = s.blocks;
+    let r = recovery::recover(log, size, own, pending, unprocessed, committed, index);
+    let replay = r.replay;
+    match r.walked {
+        Ok(walked) => {
             let length = page_put::put_pages(
                 out,
-                pending,
-                s.pending,
-                blocks.unprocessed,
-                s.committed,
-                stop,
+                rows_of(pending, replay.pending),
+                replay.blocks.unprocessed,
+                replay.committed,
+                walked.stop,
             );
-            Paged { number: 0, length }
+            Paged {
+                recovered: Ok(()),
+                length,
+            }
+        }
+        Err(at) => {
+            let length = put_number_line(out, at.refusal);
+            Paged {
+                recovered: Err(at.refusal),
+                length,
+            }
         }
     }
 }
@@ -83,26 +78,29 @@ pub fn input_page(input: &[u8], out: &mut [u8]) -> usize
     ensures upper_bound { result ≤ 309301 }
 {
     if INPUT_MAX < input.len() {
-        return page_lines::put_number_line(out, 2);
+        return put_number_line(out, Refusal::Used);
     }
-    if input.len() < 3 {
-        return page_lines::put_number_line(out, 1);
-    }
-    let mut pending = [0u64; TABLE_WORDS];
-    let mut unprocessed = [0u64; TABLE_WORDS];
-    let mut committed = [0u64; TABLE_WORDS];
-    let mut index = [0u64; TABLE_WORDS];
-    let r = recovery_page(
-        input[0] as u64,
-        &input[3..],
-        (input.len() - 3) as u64,
-        input[1] as u64,
-        input[2] as u64,
+    let [exponent, size, own, image @ ..] = input else {
+        return put_number_line(out, Refusal::RegionExponent);
+    };
+    let log = Log {
+        exponent: u64::from(*exponent),
+        image,
+        used: image.len() as u64,
+    };
+    let mut pending = [0; TABLE_WORDS];
+    let mut unprocessed = [0; TABLE_WORDS];
+    let mut committed = [0; TABLE_WORDS];
+    let mut index = [0; TABLE_WORDS];
+    let page = recovery_page(
+        &log,
+        u64::from(*size),
+        u64::from(*own),
         &mut pending,
         &mut unprocessed,
         &mut committed,
         &mut index,
         out,
     );
-    r.length
+    page.length
 }

@@ -1,31 +1,21 @@
 -- Lines by the words of rows are those of the entries, and the foot is that of the recovery. Assumes nothing.
 use mathlib.Core.Path.{◌≡◌, refl, ap, ap₂}
 use mathlib.Core.Bool.{Bool, true, false}
-use mathlib.Core.List.{List, [], ◌∷◌, ◌++◌, map, append_assoc}
-use Prim.Native.Nat.{ℕ, ◌+◌, ◌*◌}
-use native.Mathlib.Nat.{add-zero}
+use mathlib.Core.List.{List, [], ◌∷◌, map, append_assoc}
+use Prim.Native.Nat.{ℕ}
 use native.Mathlib.Omega.{arith}
-use lib.ListN.{length, get_or}
+use lib.ListN.{length}
 use Rattle.laws.specs.Pick.{pick}
-use Rattle.laws.proofs.Written.{get_or_bytes_at}
 use Rattle.text.specs.Columns.{blanks, right, spaced}
 use Rattle.wal.specs.Walk.{Stop}
 use Rattle.wal.specs.Answers.{stop_of}
 use Rattle.listing.proofs.Lines.{word_is}
-use Rattle.rows.specs.Rows.{row_at}
 use Rattle.index.specs.Keys.{key_words}
 use Rattle.replay.specs.Items.{Item, is_block, is_payload, is_own_block, is_state, is_commit, ReplayEntry}
 use Rattle.replay.specs.Rules.{can_be_pending, all_keep_pending, pending, unprocessed, committed}
 use Rattle.state.specs.Tables.{pending_row}
 use Rattle.page_lines.specs.Lines.{line, kind, author, round, row, foot}
 use Rattle.page_lines.specs.Words.{count_field, kind_field, row_text, foot_text}
-
--- the words of row i
-pub row_words : (t : List ℕ) (i : ℕ) → row_text (row_at t i)
-    ≡ line (count_field (get_or t (8 * i) 0) ++ kind_field (get_or t (8 * i + 1) 0) (get_or t (8 * i + 3) 0) (get_or t (8 * i + 2) 0))
-unfolding row_text row_at
-row_words t i =
-    rw (get_or_bytes_at t (8 * i) 8 0 (omega arith), get_or_bytes_at t (8 * i) 8 1 (omega arith), get_or_bytes_at t (8 * i) 8 2 (omega arith), get_or_bytes_at t (8 * i) 8 3 (omega arith), add-zero)
 
 -- what is pending is a block or a payload
 row_is : (x : ReplayEntry) → can_be_pending x.item ≡ true → row_text (pending_row x) ≡ row x

@@ -2,14 +2,15 @@
 // and the answer is where the text would end.
 #![tactic(auto)]
 
-ghost use Rattle.std.specs.Prelude.{[], ◌∷◌, ◌++◌, ◌+◌, ◌-◌, ◌*◌, ◌^◌, ◌≤◌, ◌<◌, ◌≡◌, length};
+ghost use Rattle.std.specs.Prelude.{[], ◌∷◌, ◌++◌, ◌+◌, ◌-◌, ◌^◌, ◌≤◌, ◌<◌, ◌≡◌};
 ghost use Rattle.laws.specs.Ascii.{line_feed};
 ghost use Rattle.text.specs.Columns.{blanks};
 ghost use Rattle.text.specs.Put.{Put};
-ghost use Rattle.rows.specs.Rows.{row_at};
+ghost use Rattle.refusal.specs.Refusals.{number};
 ghost use Rattle.page_lines.specs.Lines.{heading, number_line};
 ghost use Rattle.page_lines.specs.Words.{count_field, kind_field, row_text, foot_text};
 
+use refusal::Refusal;
 use wal::Stop;
 
 // The columns of a line.
@@ -44,10 +45,10 @@ pub fn put_heading(out: &mut [u8], at: usize) -> usize
 }
 
 // The line of a refused recovery.
-pub fn put_number_line(out: &mut [u8], number: u8) -> usize
-    ensures { Put 0 (number_line number) out.old out.new result }
+pub fn put_number_line(out: &mut [u8], refusal: Refusal) -> usize
+    ensures { Put 0 (number_line (number refusal)) out.old out.new result }
 {
-    let end = text::put_right(out, 0, 13, number as u64);
+    let end = text::put_right(out, 0, 13, u64::from(refusal.number()));
     put_end(out, 0, end)
 }
 
@@ -87,19 +88,14 @@ fn put_kind(out: &mut [u8], at: usize, kind: u64, author: u64, round: u64) -> us
     text::put_right(out, sixth, 20, round)
 }
 
-// The line of the pending entry in row i: position, kind, round and author are its first words.
-pub fn put_row(out: &mut [u8], at: usize, pending: &[u64], i: usize) -> usize
-    requires { (at < 2 ^ 59) × (8 * i + 8 ≤ length pending.now) }
-    ensures put { Put at (row_text (row_at pending.now i)) out.old out.new result }
+// The line of a pending entry: position, kind, round and author are the first words of its row.
+pub fn put_row(out: &mut [u8], at: usize, row: &[u64; 8]) -> usize
+    requires { at < 2 ^ 59 }
+    ensures put { Put at (row_text row.now) out.old out.new result }
     ensures value { result ≡ at + 73 }
 {
-    let second = put_count(out, at, pending[8 * i]);
-    let end = put_kind(
-        out,
-        second,
-        pending[8 * i + 1],
-        pending[8 * i + 3],
-        pending[8 * i + 2],
-    );
+    let [position, kind, round, author, ..] = *row;
+    let second = put_count(out, at, position);
+    let end = put_kind(out, second, kind, author, round);
     put_end(out, at, end)
 }

@@ -21,10 +21,10 @@ returns-then-input-gt-INPUT_MAX c =
     let put = printed input (λ n. (c.type_inv.input n).fits) (rw (prints_long input (omega arith)) c.put_number_line.ensures) in
     record { put = put.0; upper_bound = put.1 }
 
-pub returns-then-input-lt3 : goal.returns-then-input-lt3
-returns-then-input-lt3 c =
+pub returns-in_default : goal.returns-in_default
+returns-in_default c =
     let input = c.args.input.now in
-    let put = printed input (λ n. (c.type_inv.input n).fits) (rw (prints_short input (omega arith)) c.put_number_line-then-input-lt3.ensures) in
+    let put = printed input (λ n. (c.type_inv.input n).fits) (rw (prints_short input c.in_default.len_below) c.put_number_line-in_default.ensures) in
     record { put = put.0; upper_bound = put.1 }
 
 pub returns : goal.returns
@@ -32,5 +32,5 @@ returns c =
     let input = c.args.input.now in
     let empty = length-replicate {A = ℕ} 32768 0 in
     let put = printed input (λ n. (c.type_inv.input n).fits)
-    (page_printed input (omega arith) (omega arith) c.recovery_page-r.ensures empty empty empty empty) in
+    (page_printed input c.if-input-gt-INPUT_MAX.false c.in-len3-up.len_at_least c.from.ensures c.from-2.ensures c.from-3.ensures c.recovery_page-page.ensures empty empty empty empty) in
     record { put = put.0; upper_bound = put.1 }

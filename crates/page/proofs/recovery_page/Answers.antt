@@ -1,18 +1,36 @@
 -- `page::recovery_page` meets its contract. Assumes nothing.
-use mathlib.Core.Path.{refl}
+use mathlib.Core.Path.{ap, ◌∙◌}
+use native.Mathlib.Omega.{arith}
+use Prim.Native.Nat.{◌*◌, ◌≤◌, ◌^◌}
+use lib.ListN.{length}
+use Rattle.rows.proofs.Rows.{length_rows_of}
+use Rattle.replay_log.specs.Answers.{tables}
 use Rattle.page.proofs.Recoveries.{refused_page, pages_fit, stopped_page}
 use Rattle.page.proofs.recovery_page.Goals as goal
+use Rattle.page.proofs.recovery_page.Goals.{In-Ok}
+
+-- what is pending is in the table, and few
+fit : (c : In-Ok) → (c.recover-r.result.replay.pending ≤ 2 ^ 40) × (8 * c.recover-r.result.replay.pending ≤ length c.recover-r.new.pending)
+fit c =
+    let a = c.args in
+    let log = a.log.now in
+    pages_fit log.exponent log.image.now log.used a.size a.own (tables a.pending.now a.unprocessed.now a.committed.now a.index.now) c.recover-r.ensures c.in-Ok.is c.recover-r.auto.pending
+
+pub rows_of-requires : goal.rows_of-requires
+rows_of-requires c = (fit (goal.at.rows_of-requires c).In-Ok).1
 
 pub put_pages-length-requires : goal.put_pages-length-requires
 put_pages-length-requires c =
+    omega (arith, (fit (goal.at.put_pages-length-requires c).In-Ok).0, ap length c.rows_of.ensures ∙ length_rows_of c.recover-r.result.replay.pending c.recover-r.new.pending)
+
+pub returns-in-Ok : goal.returns-in-Ok
+returns-in-Ok c =
     let a = c.args in
-    pages_fit c.recover-r.ensures c.in-Stopped.stop c.in-Stopped.field-1 c.in-Stopped.field-2 c.in-Stopped.is c.recover-r.auto.pending
-    a.k a.image.now a.size (λ n. (c.type_inv.image n).fits) refl
+    let log = a.log.now in
+    stopped_page log.exponent log.image.now log.used a.size a.own (tables a.pending.now a.unprocessed.now a.committed.now a.index.now) c.recover-r.ensures c.in-Ok.is c.recover-r.auto.pending c.rows_of.ensures c.put_pages-length.ensures
 
-pub returns-in-Refused : goal.returns-in-Refused
-returns-in-Refused c =
-    refused_page c.recover-r.ensures c.in-Refused.number c.in-Refused.field-1 c.in-Refused.is c.put_number_line-length.ensures
-
-pub returns-in-Stopped : goal.returns-in-Stopped
-returns-in-Stopped c =
-    stopped_page c.recover-r.ensures c.in-Stopped.stop c.in-Stopped.field-1 c.in-Stopped.field-2 c.in-Stopped.is c.recover-r.auto.pending c.put_pages-length.ensures
+pub returns-in-Err : goal.returns-in-Err
+returns-in-Err c =
+    let a = c.args in
+    let log = a.log.now in
+    refused_page log.exponent log.image.now log.used a.size a.own (tables a.pending.now a.unprocessed.now a.committed.now a.index.now) c.recover-r.ensures c.in-Err.is c.put_number_line-length.ensures

@@ -1,4 +1,5 @@
 -- `page_lines::put_number_line` meets its contract. Assumes nothing.
+use mathlib.Core.Path.{◌∙◌}
 use native.Mathlib.Omega.{arith}
 use Rattle.page_lines.specs.Lines.{number_line}
 use Rattle.page_lines.proofs.Fields.{line_put, right_ends}
@@ -11,6 +12,7 @@ put_end-requires c =
 pub returns : goal.returns
 unfolding number_line
 returns c =
+    rw (← c.from.ensures ∙ c.number.ensures)
     (line_put c.put_right-end.ensures
     (omega (arith, right_ends _ _ (omega arith) (omega arith) c.put_right-end.ensures))
     c.put_end.ensures).0

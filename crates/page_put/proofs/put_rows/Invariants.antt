@@ -1,6 +1,7 @@
--- `page_put::put_rows` meets its contract. Assumes nothing.
+-- `page_put::put_rows` meets its contract: the rows before this one are put. Assumes nothing.
+use lib.ListN.{take}
 use Rattle.page_put.proofs.Pages.{Rowing}
 use Rattle.page_put.proofs.put_rows.Given as goal
 
-abbrev pub invariant-loop-i : goal.invariant-loop-i
-invariant-loop-i l = Rowing l.pending l.from l.to l.at l.initial.out l.out l.next l.i
+abbrev pub invariant-loop-row : goal.invariant-loop-row
+invariant-loop-row l = Rowing l.at l.initial.out l.out l.next (take l.row-index l.rows)

@@ -6,6 +6,8 @@ use mathlib.Core.Option.{Option, some}
 use Prim.Native.Nat.{ℕ, ◌^◌, ◌≤◌, ◌<◌}
 use native.Mathlib.Omega.{arith}
 use lib.ListN.{length, take}
+use Rattle.std.proofs.Common.{Result, Ok}
+use Rattle.refusal.specs.declared.Refusal.{Refusal}
 use Rattle.laws.specs.Bytes.{AllBytes}
 use Rattle.types.specs.declared.BlockReference.{BlockReference}
 use Rattle.wal_reader.specs.Entries.{Entry, end_of}
@@ -25,9 +27,9 @@ use Rattle.store.specs.declared.BlockStore.{BlockStore}
 use Rattle.store.specs.Store.{indexed}
 use Rattle.indexing.specs.declared.Inserted.{Inserted}
 use Rattle.indexing.specs.Indexing.{Insertion, inserted_of, image_with}
-use Rattle.insert.specs.Insert.{Inserts}
+use Rattle.insert.specs.Insert.{insertion, writer_after, Inserts}
 use Rattle.insert.proofs.Kept.{accepted_passed}
-use Rattle.insert.proofs.Numbers.{zero_accepted}
+use Rattle.insert.proofs.Numbers.{ok_accepted}
 use Rattle.cut.specs.PlainLog.{Append}
 use Rattle.cut.specs.Cut.{LogImage, used_after, answer_of, after_append}
 use Rattle.reopened.specs.Reopened.{Reachable, new, opens, appends, inserts, cleans, looks, lends}
@@ -70,18 +72,18 @@ module _ (k size own : ℕ) (committee : committee_check size own ≡ 0) where
     -- what an accepted insert has checked, recovery checks
     whole_insert : (tag : ℕ) (payload : List ℕ) → (tag ≡ 1) ⊎ (tag ≡ 3) → AllBytes payload
         → (i : Inserted) (image' words' : List ℕ)
-        → Inserts (record { exponent = k; used = log.used }) s tag payload log.image words i image' words' → i.number ≡ 0
+        → Inserts (record { exponent = k; used = log.used }) s tag payload log.image words (Ok i) image' words'
         → ReadsWhole k size own (record { used = i.writer.used; image = image' })
-    unfolding inserted_of image_with indexed end_of
-    whole_insert tag payload which all i image' words' ins number =
+    unfolding inserted_of writer_after image_with indexed end_of
+    whole_insert tag payload which all i image' words' ins =
         let w : WalWriter = record { exponent = k; used = log.used } in
         let n : ℕ = length log.image in
-        let put = zero_accepted w n s words tag payload (length payload) (sym (ap (λ (i : Inserted). i.number) ins.answer) ∙ number) in
+        let put = ok_accepted w s (length payload) (insertion w n s words tag payload) ins.answer in
         let passed = accepted_passed w n s words tag payload put.is in
         let e : Entry = record { start = put.start; tag = tag; payload = payload } in
         let held = insert_holds put.start payload all tag which passed.holds in
         let used : i.writer.used ≡ end_of e =
-        ap (λ (i : Inserted). i.writer.used) (ins.answer ∙ ap (inserted_of w s (length payload)) put.is) in
+        ap (λ (r : Result Inserted Refusal). (writer_after w r).used) (ins.answer ∙ ap (inserted_of w s (length payload)) put.is) in
         let bytes : image' ≡ image_after (append.accepted put.start) log.used log.image tag payload =
         ins.log ∙ ap (λ (x : Insertion). image_with x w log.image tag payload) put.is in
         let free : block_check size own (blocks (reads_of h.entries)) (some put.reference) ≡ 0 =
@@ -119,8 +121,8 @@ module _ (k size own : ℕ) (committee : committee_check size own ≡ 0) where
         }
     reads_whole (appends m a small one three) checked =
         whole_append (carries k size own low high m) (reads_whole m checked.1) a checked.0 small one three
-    reads_whole (inserts m tag payload which all i image' words' ins number) checked =
-        whole_insert (carries k size own low high m) (reads_whole m checked) tag payload which all i image' words' ins number
+    reads_whole (inserts m tag payload which all i image' words' ins) checked =
+        whole_insert (carries k size own low high m) (reads_whole m checked) tag payload which all i image' words' ins
     reads_whole (cleans m t) checked = reads_whole m checked
     reads_whole (looks m n) checked = reads_whole m checked
     reads_whole (lends m image' words' room same rows) checked =

@@ -34,7 +34,7 @@ abbrev pub AllChecked : {k size own : ℕ} {log : LogImage} {s : BlockStore} {in
 AllChecked (new image index) = Unit {0}
 AllChecked (opens image all used before after r word e l is answers) = Unit {0}
 AllChecked (appends m a small one three) = IsChecked a × AllChecked m
-AllChecked (inserts m tag bytes which all r image' index' ins number) = AllChecked m
+AllChecked (inserts m tag bytes which all i image' index' ins) = AllChecked m
 AllChecked (cleans m t) = AllChecked m
 AllChecked (looks m n) = AllChecked m
 AllChecked (lends m image' index' room same rows) = AllChecked m

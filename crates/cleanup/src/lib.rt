@@ -6,18 +6,14 @@
 
 ghost use Rattle.std.specs.Prelude.{◌≡◌, map, ◌*◌, ◌≤◌, length};
 ghost use Rattle.laws.specs.Bytes.{written};
+ghost use Rattle.wal_position.specs.Logs.{of_log};
 ghost use Rattle.rows.specs.Rows.{rows_of, flat, Ascending};
 ghost use Rattle.cleanup.specs.Cleanup.{unload, unloads, cleanup_answer, cleanup_index};
 
-use store::BlockStore;
+use refusal::Refusal;
+use store::{BlockStore, StoreView};
 use types::RoundNumber;
-
-// How many blocks were unloaded, or a refusal's number.
-#[derive(Clone, Copy)]
-pub enum Cleaned {
-    Unloaded(u64),
-    Refused(u8),
-}
+use wal_position::Log;
 
 // Unloads the blocks of the rows up to round t, which ascend, and counts those that were loaded.
 fn unload_below_round(index: &mut [u64], count: usize, t: RoundNumber) -> u64
@@ -39,24 +35,24 @@ fn unload_below_round(index: &mut [u64], count: usize, t: RoundNumber) -> u64
     unloaded
 }
 
-// Unloads rounds up to t; t = 0 does nothing.
+// Unloads rounds up to t, and answers how many blocks were unloaded; t = 0 does nothing.
 pub fn cleanup(
-    k: u64,
-    image: &[u8],
-    used: u64,
+    log: &Log<'_>,
     store: BlockStore,
     index: &mut [u64],
     t: RoundNumber,
-) -> Cleaned
-    ensures value { result ≡ cleanup_answer k image.now used store index.old t }
-    ensures index_after { index.new ≡ cleanup_index k image.now used store index.old t }
+) -> Result<u64, Refusal>
+    ensures value { result ≡ of_log cleanup_answer log.now store index.old t }
+    ensures index_after { index.new ≡ of_log cleanup_index log.now store index.old t }
 {
-    let number = store::check_call(k, image, used, store, index);
-    if number != 0 {
-        return Cleaned::Refused(number);
-    }
+    let view = StoreView {
+        log: *log,
+        store,
+        index: &*index,
+    };
+    view.check()?;
     if t == 0 {
-        return Cleaned::Unloaded(0);
+        return Ok(0);
     }
-    Cleaned::Unloaded(unload_below_round(index, store.rows, t))
+    Ok(unload_below_round(index, store.rows, t))
 }

@@ -1,34 +1,29 @@
--- What a question answers, by the number that the checks gave. Assumes nothing.
-use mathlib.Core.Path.{◌≡◌, sym, ap, ◌∙◌}
+-- What a question answers, once its checks passed. Assumes nothing.
+use mathlib.Core.Path.{◌≡◌, refl, sym, ◌∙◌}
 use mathlib.Core.Bool.{Bool, true, false}
 use mathlib.Core.List.{List}
 use Prim.Native.Nat.{ℕ}
+use Rattle.std.specs.Result.{is_ok}
+use Rattle.std.proofs.Common.{Ok, Err}
 use Rattle.laws.specs.Pick.{pick}
-use Rattle.wal_position.proofs.Checks.{unless_passed, unless_refused}
-use Rattle.exists.specs.declared.Answer.TheVariants.{Yes, No, Refused}
-use Rattle.exists.specs.Exists.{answered, all_there, round_there, all_exist}
+use Rattle.rows.specs.Rows.{below, has_key, place_of}
+use Rattle.exists.specs.Exists.{all_there, round_there, all_exist}
 
--- r is the number
-module _ (n : ℕ) {r : ℕ} (is : r ≡ n) (b : Bool) where
-  pub answer_refused : (r ≡ 0 → ⊥) → Refused r ≡ answered n b
-  unfolding answered
-  answer_refused h = ap Refused is ∙ sym (unless_refused Refused (pick b Yes No) n (λ z. h (is ∙ z)))
-
-  pub answer_yes : r ≡ 0 → b ≡ true → Yes ≡ answered n b
-  unfolding answered pick
-  answer_yes z e = sym (unless_passed Refused (pick b Yes No) n (sym is ∙ z) ∙ rw e)
-
-  pub answer_no : r ≡ 0 → b ≡ false → No ≡ answered n b
-  unfolding answered pick
-  answer_no z e = sym (unless_passed Refused (pick b Yes No) n (sym is ∙ z) ∙ rw e)
+-- a key found among the rows is there
+pub found_has : (k : List ℕ) (rows : List (List ℕ)) → is_ok (place_of k rows) ≡ has_key k rows
+unfolding place_of pick
+found_has k rows = by (has_key k rows)
+  where
+    by : (t : Bool) → is_ok (pick t (Ok (below k rows)) (Err (below k rows))) ≡ t
+    by true = refl
+    by false = refl
 
 -- a round without blocks has none of the authorities
 module _ (authors : List ℕ) (round : ℕ) (rows : List (List ℕ)) where
-  pub none_there : {x : Bool} → x ≡ round_there round rows → x ≡ false → all_there authors round rows ≡ false
+  pub none_there : {x : Bool} → x ≡ round_there round rows → x ≡ false → false ≡ all_there authors round rows
   unfolding all_there pick
   none_there is e = rw (← is, e)
 
-  pub some_there : {x : Bool} → x ≡ round_there round rows → x ≡ true → {y b : Bool} → y ≡ all_exist authors round rows → y ≡ b
-      → all_there authors round rows ≡ b
+  pub some_there : {x : Bool} → x ≡ round_there round rows → x ≡ true → all_exist authors round rows ≡ all_there authors round rows
   unfolding all_there pick
-  some_there is e same h = rw (← is, e) (sym same ∙ h)
+  some_there is e = rw (← is, e)

@@ -5,21 +5,21 @@ use mathlib.Core.List.{List, [], ◌∷◌}
 use mathlib.Core.Logic.{⊎_elim}
 use Prim.Native.Nat.{ℕ, suc, ◌*◌, ◌≤◌, ◌<◌}
 use native.Mathlib.Omega.{arith}
-use lib.Dec.{eqb}
-use lib.ListN.{length, take, drop, get_or}
-use borrow.Author.Tests.{eq-eqb, ne_eqb}
+use lib.Dec.{eqb, ltb}
+use lib.ListN.{length, take, drop, get_or, drop_of_length-le}
+use lib.Seq.{drop-cons}
+use borrow.Author.Tests.{eq-eqb, ne_eqb, lt-ltb, le-ltb}
 use Rattle.laws.specs.Pick.{pick}
 use Rattle.laws.proofs.Tests.{leb_cases, eqb_cases}
 use Rattle.std.specs.declared.cmp.Ordering.TheVariants.{Less, Greater}
 use Rattle.std.specs.Prelude.{Ok, Err}
-use Rattle.rows.specs.Rows.{rows_of, key, choose, compared, Ascending, below, has_key, place_of}
+use Rattle.rows.specs.Rows.{key, choose, compared, Ascending, below, has_key, place_of}
 use Rattle.tables.specs.Tables.{EightWords}
 use Rattle.rows.proofs.Lexicographic.{order_cases, not_above, first_below, first_above, first_same, below_of}
 use Rattle.rows.proofs.Ascending.{leads_trans, leads_none}
 use Rattle.rows.proofs.Places.{below_within, at_place, gap_place}
-use Rattle.rows.proofs.Rows.{length_rows_of, first_row_at, rows_from, rows_from_cons, rows_from_none, drop_rows_of}
 use Rattle.index.specs.Keys.{exists_at}
-use Rattle.tables.proofs.Tables.{eights_rows_of}
+use Rattle.tables.proofs.Tables.{eights_told}
 use Rattle.index.proofs.Existence.{lowest, exists_place}
 use Rattle.exists.specs.Exists.{round_there}
 use Rattle.store.proofs.Rounds.{Past, past}
@@ -103,24 +103,24 @@ module _ (round : ℕ) where
       (leb_cases (suc round) (get_or r 0 0)))
       (leb_cases (suc (get_or r 0 0)) round)
 
-  -- The rows of a table, and where the lowest key is among them or is to be put.
-  module _ (t : List ℕ) (count : ℕ) (fits : 8 * count ≤ length t) (a : Ascending (rows_of count t)) {i : ℕ} where
-    pub there_found : Ok i ≡ place_of first (rows_of count t) → true ≡ round_there round (rows_of count t)
+  -- Where the lowest key is among the rows, or is to be put.
+  module _ (rows : List (List ℕ)) (a : Ascending rows) (told : (i : ℕ) → i < length rows → length (get_or rows i []) ≡ 8) {i : ℕ} where
+    pub there_found : Ok i ≡ place_of first rows → true ≡ round_there round rows
     unfolding pick
-    there_found is = sym (there_place (rows_of count t) (eights_rows_of count t fits) a ∙ rw (at_place first (rows_of count t) is).0)
+    there_found is = sym (there_place rows (eights_told rows told) a ∙ rw (at_place first rows is).0)
 
-    module _ (is : Err i ≡ place_of first (rows_of count t)) where
-      behind_gap : round_there round (rows_of count t) ≡ first_is (rows_from t i count)
-      unfolding pick
-      behind_gap =
-          let gap = gap_place first (rows_of count t) is in
-          let within : i ≤ count = omega (arith, gap.1, below_within first (rows_of count t), length_rows_of count t) in
-          let rest : drop (below first (rows_of count t)) (rows_of count t) ≡ rows_from t i count =
-          ap (λ (n : ℕ). drop n (rows_of count t)) (sym gap.1) ∙ drop_rows_of t i count within in
-          there_place (rows_of count t) (eights_rows_of count t fits) a ∙ rw (gap.0, rest)
-
-      pub there_end : count ≤ i → false ≡ round_there round (rows_of count t)
-      there_end h = sym (behind_gap ∙ ap first_is (rows_from_none t i count h))
-
-      pub there_next : i < count → eqb (get_or t (8 * i) 0) round ≡ round_there round (rows_of count t)
-      there_next h = sym (behind_gap ∙ rw (rows_from_cons t i count h, first_row_at t i))
+    -- r is what the code reads in the row at that place, if there is one
+    pub there_not_found : {r : Bool} → Err i ≡ place_of first rows → r ≡ pick (ltb i (length rows)) (eqb (get_or (get_or rows i []) 0 0) round) false
+        → r ≡ round_there round rows
+    unfolding pick
+    there_not_found is read =
+        let gap = gap_place first rows is in
+        read
+        ∙ sym (
+        there_place rows (eights_told rows told) a
+        ∙ rw (gap.0, sym gap.1)
+        (⊎_elim
+        (λ l. rw (drop-cons rows i [] l.1, lt-ltb i (length rows) l.1))
+        (λ g. rw (drop_of_length-le rows {i = i} (omega (arith, g.1)), le-ltb i (length rows) (omega (arith, g.1))))
+        (leb_cases (suc i) (length rows)))
+        )

@@ -1,5 +1,5 @@
 -- The reference of the block in a payload, by what the code found. Assumes nothing.
-use mathlib.Core.Path.{◌≡◌, sym, ap, ◌∙◌}
+use mathlib.Core.Path.{◌≡◌, refl, sym, ap}
 use mathlib.Core.Bool.{Bool, true, false}
 use mathlib.Core.List.{List}
 use Prim.Native.Nat.{ℕ}
@@ -12,9 +12,9 @@ use Rattle.bincode.specs.Answers.{decoded_as}
 use Rattle.bincode.proofs.Found.{told_as, told_none}
 use Rattle.refusal.specs.declared.Refusal.{Refusal}
 use Rattle.refusal.specs.declared.Refusal.TheVariants.{Block, OwnBlock}
-use Rattle.refusal.specs.Refusals.{number, refusal_of}
+use Rattle.refusal.specs.Refusals.{refusal_of}
 use Rattle.refusal.specs.Tabled.{Tabled}
-use Rattle.refusal.proofs.Numbers.{tabled, numbered}
+use Rattle.refusal.proofs.Numbers.{tabled}
 use Rattle.types.specs.declared.BlockReference.{BlockReference}
 use Rattle.types.specs.Records.{BlockValue, block}
 use Rattle.blocks.specs.declared.StatementBlock.{StatementBlock}
@@ -80,20 +80,20 @@ block_tabled tag payload =
     (answer_tabled 9 (λ (b : BlockValue). b.reference) (tabled Block) (block payload 0))
     (answer_tabled 10 (λ (o : OwnBlockValue). o.block.reference) (tabled OwnBlock) (own_block payload 0))
 
-told_bad : {k : Refusal} (x : Decoded) → DecodedTabled x → Err k ≡ reference_in x → x ≡ definitions.Decoded.bad (number k)
-told_bad {k} (definitions.Decoded.bad n) t is =
-    let same : k ≡ refusal_of n = cc in
-    ap definitions.Decoded.bad (sym (numbered t) ∙ ap number (sym same))
-told_bad (good r) t is = absurd (cc)
+-- ---- What the answer says
 
-told_good : {r : BlockReference} (x : Decoded) → Ok r ≡ reference_in x → x ≡ good r
+told_bad : (x : Decoded) {k : Refusal} → Err k ≡ reference_in x → (n : ℕ) × (x ≡ definitions.Decoded.bad n) × (k ≡ refusal_of n)
+told_bad (definitions.Decoded.bad n) is = (n, refl, cc)
+told_bad (good r) is = absurd (cc)
+
+told_good : (x : Decoded) {r : BlockReference} → Ok r ≡ reference_in x → x ≡ good r
 told_good (definitions.Decoded.bad n) is = absurd (cc)
-told_good {r} (good s) is = let same : s ≡ r = cc in ap good same
+told_good (good s) {r} is = let same : s ≡ r = cc in ap good same
 
 module _ (tag : ℕ) (payload : List ℕ) where
   pub reference_bad : {k : Refusal} → Err k ≡ reference_in (decoded_reference tag payload)
-      → decoded_reference tag payload ≡ definitions.Decoded.bad (number k)
-  reference_bad = told_bad (decoded_reference tag payload) (block_tabled tag payload)
+      → (n : ℕ) × (decoded_reference tag payload ≡ definitions.Decoded.bad n) × (k ≡ refusal_of n)
+  reference_bad = told_bad (decoded_reference tag payload)
 
   pub reference_good : {r : BlockReference} → Ok r ≡ reference_in (decoded_reference tag payload) → decoded_reference tag payload ≡ good r
   reference_good = told_good (decoded_reference tag payload)

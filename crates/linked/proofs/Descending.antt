@@ -3,26 +3,23 @@
 use mathlib.Core.Path.{◌≡◌, refl, sym, ap, ap₂, ◌∙◌}
 use mathlib.Core.List.{List, [], ◌∷◌, ◌++◌}
 use mathlib.Core.Logic.{⊎_elim}
-use Prim.Native.Nat.{ℕ, zero, suc, ◌-◌, ◌*◌, ◌≤◌, ◌<◌}
+use Prim.Native.Nat.{ℕ, zero, suc, ◌-◌, ◌≤◌, ◌<◌}
 use native.Mathlib.Omega.{arith}
 use lib.ListN.{length, take, drop, get_or, length-take, drop_of_length-le}
 use borrow.Author.Tests.{le-leb, lt-leb}
 use Rattle.laws.specs.Pick.{pick}
 use Rattle.laws.proofs.Tests.{leb_cases}
-use Rattle.rows.specs.Rows.{rows_of, Ascending, below}
+use Rattle.std.proofs.lemmas.Slice.{between_is}
+use Rattle.rows.specs.Rows.{Ascending, below}
 use Rattle.tables.specs.Tables.{EightWords}
-use Rattle.rows.proofs.Rows.{length_rows_of, get_or_rows_of, first_row_at}
 use Rattle.rows.proofs.Places.{below_within}
-use Rattle.tables.proofs.Tables.{eights_rows_of}
 use Rattle.filters.specs.Filters.{round_of, by_round}
-use Rattle.filters.specs.Segments.{between}
-use Rattle.filters.proofs.Keeping.{between_part}
 use Rattle.filters.proofs.Segments.{AtLeast, Rising, ascending_rising, round_key, lower_next, lower_none, up_to_below, round_segment}
 use Rattle.linked.specs.Linked.{down_to}
 
 -- ---- Rows before the first of a round are of earlier rounds, and those from it on are not
 
-abbrev round_at : List (List ℕ) → ℕ → ℕ
+abbrev pub round_at : List (List ℕ) → ℕ → ℕ
 round_at rows i = get_or (get_or rows i []) 0 0
 
 least_at : (p : ℕ) (rows : List (List ℕ)) (i : ℕ) → AtLeast p rows → i < length rows → p ≤ round_at rows i
@@ -78,21 +75,18 @@ module _ (low : ℕ) (rows : List (List ℕ)) where
       (λ f. let e : n ≡ suc above = omega (arith, f.1) in ap (λ (m : ℕ). down_to low m rows) (sym e))
       (leb_cases n above)
 
--- ---- A table's rows: `to` is the first row from the round `above` on
+-- ---- Ascending rows: `to` is the first row from the round `above` on
 
-module _ (w : List ℕ) (count : ℕ) (fits : 8 * count ≤ length w) (ascends : Ascending (rows_of count w)) (low above : ℕ) {first to : ℕ}
-    (starts : first ≡ below (round_key low) (rows_of count w)) (ends : to ≡ below (round_key above) (rows_of count w)) where
-  rising : Rising (rows_of count w)
-  rising = ascending_rising (rows_of count w) ascends
+module _ (rows : List (List ℕ)) (eights : EightWords rows) (ascends : Ascending rows) (low above : ℕ) {first to : ℕ}
+    (starts : first ≡ below (round_key low) rows) (ends : to ≡ below (round_key above) rows) where
+  rising : Rising rows
+  rising = ascending_rising rows ascends
 
-  eights : EightWords (rows_of count w)
-  eights = eights_rows_of count w fits
-
-  pub to_within : to ≤ count
-  to_within = omega (arith, below_within (round_key above) (rows_of count w), length_rows_of count w)
+  pub to_within : to ≤ length rows
+  to_within = omega (arith, below_within (round_key above) rows)
 
   -- no row from `to` on is of a round before `above`
-  not_above : (m : ℕ) → m ≤ above → below (round_key m) (rows_of count w) ≤ to
+  not_above : (m : ℕ) → m ≤ above → below (round_key m) rows ≤ to
   not_above m h =
       ⊎_elim
       (λ t. t.1)
@@ -100,85 +94,80 @@ module _ (w : List ℕ) (count : ℕ) (fits : 8 * count ≤ length w) (ascends :
       absurd (
       omega (
         arith,
-        before_first m (rows_of count w) rising eights to f.1,
-        from_first above (rows_of count w) rising eights to (omega arith) (omega (arith, f.1, below_within (round_key m) (rows_of count w))),
+        before_first m rows rising eights to f.1,
+        from_first above rows rising eights to (omega arith) (omega (arith, f.1, below_within (round_key m) rows)),
       )
       ))
-      (leb_cases (below (round_key m) (rows_of count w)) to)
+      (leb_cases (below (round_key m) rows) to)
 
   -- the rows of a round
-  round_rows : (m : ℕ) {from next : ℕ} → from ≡ below (round_key m) (rows_of count w) → next ≡ below (round_key (suc m)) (rows_of count w)
-      → by_round m (rows_of count w) ≡ drop from (take next (rows_of count w))
+  round_rows : (m : ℕ) {from next : ℕ} → from ≡ below (round_key m) rows → next ≡ below (round_key (suc m)) rows
+      → by_round m rows ≡ drop from (take next rows)
   unfolding by_round round_of
   round_rows m {from} {next} f n =
-      round_segment m (rows_of count w) rising eights
-      ∙ ap₂ (λ (a b : ℕ). drop a (take b (rows_of count w))) (sym f) (up_to_below m (rows_of count w) eights ∙ sym n)
+      round_segment m rows rising eights
+      ∙ ap₂ (λ (a b : ℕ). drop a (take b rows)) (sym f) (up_to_below m rows eights ∙ sym n)
 
-  no_rows : (m : ℕ) → to ≡ below (round_key m) (rows_of count w) → to ≡ below (round_key (suc m)) (rows_of count w) → by_round m (rows_of count w) ≡ []
+  no_rows : (m : ℕ) → to ≡ below (round_key m) rows → to ≡ below (round_key (suc m)) rows → by_round m rows ≡ []
   no_rows m f n =
       round_rows m f n
-      ∙ drop_of_length-le (take to (rows_of count w)) {i = to} (omega (arith, length-take to (rows_of count w)))
+      ∙ drop_of_length-le (take to rows) {i = to} (omega (arith, length-take to rows))
 
   -- where no row of the rounds from low on is left
-  pub down_ends : to ≤ first → down_to low above (rows_of count w) ≡ []
+  pub down_ends : to ≤ first → down_to low above rows ≡ []
   down_ends none =
-      let at : (m : ℕ) → low ≤ m → m ≤ above → to ≡ below (round_key m) (rows_of count w) =
+      let at : (m : ℕ) → low ≤ m → m ≤ above → to ≡ below (round_key m) rows =
       (λ m p q.
       ⊎_elim
       (λ t.
-      let row : ℕ = below (round_key m) (rows_of count w) in
+      let row : ℕ = below (round_key m) rows in
       absurd (
       omega (
         arith,
-        before_first low (rows_of count w) rising eights row (omega (arith, t.1)),
-        from_first m (rows_of count w) rising eights row (omega arith) (omega (arith, t.1, to_within, length_rows_of count w)),
+        before_first low rows rising eights row (omega (arith, t.1)),
+        from_first m rows rising eights row (omega arith) (omega (arith, t.1, to_within)),
       )
       ))
       (λ f. omega (arith, f.1, not_above m q))
-      (leb_cases (suc (below (round_key m) (rows_of count w))) to)) in
+      (leb_cases (suc (below (round_key m) rows)) to)) in
       ⊎_elim
-      (λ t. down_none low (rows_of count w) above t.1)
+      (λ t. down_none low rows above t.1)
       (λ f.
-      down_gap low (rows_of count w) low above (omega arith) (omega (arith, f.1)) (λ m p q. no_rows m (at m p (omega arith)) (at (suc m) (omega arith) (omega arith)))
-      ∙ down_none low (rows_of count w) low (omega arith))
+      down_gap low rows low above (omega arith) (omega (arith, f.1)) (λ m p q. no_rows m (at m p (omega arith)) (at (suc m) (omega arith) (omega arith)))
+      ∙ down_none low rows low (omega arith))
       (leb_cases above low)
 
-  module _ (more : first < to) {round : ℕ} (is : round ≡ get_or w (8 * (to - 1)) 0) where
-    last_row : round_at (rows_of count w) (to - 1) ≡ round
-    last_row =
-        ap (λ (r : List ℕ). get_or r 0 0) (get_or_rows_of w (to - 1) count (omega (arith, to_within))) ∙ first_row_at w (to - 1) ∙ sym is
-
+  module _ (more : first < to) {round : ℕ} (is : round ≡ round_at rows (to - 1)) where
     pub round_below : round < above
-    round_below = omega (arith, before_first above (rows_of count w) rising eights (to - 1) (omega arith), last_row)
+    round_below = omega (arith, before_first above rows rising eights (to - 1) (omega arith), is)
 
     pub round_from : low ≤ round
     round_from =
-        omega (arith, from_first low (rows_of count w) rising eights (to - 1) (omega arith) (omega (arith, to_within, length_rows_of count w)), last_row)
+        omega (arith, from_first low rows rising eights (to - 1) (omega arith) (omega (arith, to_within)), is)
 
-    under : (m : ℕ) → round < m → m ≤ above → to ≡ below (round_key m) (rows_of count w)
+    under : (m : ℕ) → round < m → m ≤ above → to ≡ below (round_key m) rows
     under m p q =
         ⊎_elim
         (λ t.
         absurd (
-        omega (arith, from_first m (rows_of count w) rising eights (to - 1) (omega (arith, t.1)) (omega (arith, to_within, length_rows_of count w)), last_row)
+        omega (arith, from_first m rows rising eights (to - 1) (omega (arith, t.1)) (omega (arith, to_within)), is)
         ))
         (λ f. omega (arith, f.1, not_above m q))
-        (leb_cases (suc (below (round_key m) (rows_of count w))) to)
+        (leb_cases (suc (below (round_key m) rows)) to)
 
-    pub down_round : down_to low above (rows_of count w) ≡ by_round round (rows_of count w) ++ down_to low round (rows_of count w)
+    pub down_round : down_to low above rows ≡ by_round round rows ++ down_to low round rows
     down_round =
-        down_gap low (rows_of count w) (suc round) above (omega (arith, round_from)) (omega (arith, round_below))
+        down_gap low rows (suc round) above (omega (arith, round_from)) (omega (arith, round_below))
         (λ m p q. no_rows m (under m (omega arith) (omega arith)) (under (suc m) (omega arith) (omega arith)))
-        ∙ down_next low (rows_of count w) round round_from
+        ∙ down_next low rows round round_from
 
-    module _ {from : ℕ} (begins : from ≡ below (round_key round) (rows_of count w)) where
+    module _ {from : ℕ} (begins : from ≡ below (round_key round) rows) where
       pub from_below : from < to
       from_below =
           ⊎_elim
           (λ t. t.1)
-          (λ f. absurd (omega (arith, before_first round (rows_of count w) rising eights (to - 1) (omega (arith, f.1)), last_row)))
+          (λ f. absurd (omega (arith, before_first round rows rising eights (to - 1) (omega (arith, f.1)), is)))
           (leb_cases (suc from) to)
 
-      pub between_round : between from to w ≡ by_round round (rows_of count w)
-      between_round =
-          between_part from to count w to_within ∙ sym (round_rows round begins (under (suc round) (omega arith) (omega (arith, round_below))))
+      pub part_round : take (to - from) (drop from rows) ≡ by_round round rows
+      part_round = between_is rows from to ∙ sym (round_rows round begins (under (suc round) (omega arith) (omega (arith, round_below))))

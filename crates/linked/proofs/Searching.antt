@@ -8,6 +8,10 @@ use native.Mathlib.Omega.{arith}
 use lib.Dec.{eqb}
 use lib.ListN.{get_or}
 use borrow.Author.Tests.{ne_eqb}
+use Rattle.std.proofs.Common.{Result, Ok, Err}
+use Rattle.refusal.specs.declared.Refusal.{Refusal}
+use Rattle.refusal.specs.Refusals.{refusal_of}
+use Rattle.refusal.specs.Tabled.{Tabled}
 use Rattle.laws.specs.Pick.{pick}
 use Rattle.laws.proofs.Tests.{eqb_cases}
 use Rattle.types.specs.declared.BlockReference.{BlockReference}
@@ -15,7 +19,7 @@ use Rattle.block_reader.specs.Reading as reading
 use Rattle.block_reader.specs.Reading.{BlockRead, block_at}
 use Rattle.filters.specs.Filters.{keep, round_of, by_round}
 use Rattle.query.specs.Query.{unloaded}
-use Rattle.block_reader.proofs.Reading.{NumberedBlock, is_refused, is_got, block_at_numbered}
+use Rattle.block_reader.proofs.Reading.{TabledBlock, is_refused, is_got, block_at_tabled}
 use Rattle.filters.proofs.Keeping.{keep_yes, keep_no}
 use Rattle.reach.specs.declared.Searched.{Searched}
 use Rattle.reach.specs.Blocks.{Indexed, Reads, failed, all, also, block_then, read_blocks}
@@ -55,43 +59,44 @@ of_round k s used n (r ∷ rows) =
     (of_round k s used n rows))
     (eqb_cases (round_of r) n)
 
--- no refusal is numbered 0
-abbrev pub Numbered : Reads → Type 0
-Numbered (failed n) = 0 < n
-Numbered (all blocks) = Unit {0}
+-- a refusal's number is of document 01's table
+abbrev pub TabledReads : Reads → Type 0
+TabledReads (failed n) = Tabled n
+TabledReads (all blocks) = Unit {0}
 
-numbered_next : (s : List ℕ) (round : ℕ) {x : BlockRead} → NumberedBlock x → (r : Reads) → Numbered r → Numbered (block_then s round x r)
+tabled_next : (s : List ℕ) (round : ℕ) {x : BlockRead} → TabledBlock x → (r : Reads) → TabledReads r → TabledReads (block_then s round x r)
 unfolding block_then also
-numbered_next s round (is_refused h) r g = h
-numbered_next s round is_got (failed n) g = g
-numbered_next s round is_got (all blocks) g = tt
+tabled_next s round (is_refused h) r g = h
+tabled_next s round is_got (failed n) g = g
+tabled_next s round is_got (all blocks) g = tt
 
-pub reads_numbered : (k : ℕ) (s : List ℕ) (used : ℕ) (rows : List (List ℕ)) → Numbered (read_blocks k s used rows)
+pub reads_tabled : (k : ℕ) (s : List ℕ) (used : ℕ) (rows : List (List ℕ)) → TabledReads (read_blocks k s used rows)
 unfolding read_blocks
-reads_numbered k s used [] = tt
-reads_numbered k s used (r ∷ rows) =
-    numbered_next s (round_of r) (block_at_numbered k s used (get_or r 6 0)) (read_blocks k s used rows) (reads_numbered k s used rows)
+reads_tabled k s used [] = tt
+reads_tabled k s used (r ∷ rows) =
+    tabled_next s (round_of r) (block_at_tabled k s used (get_or r 6 0)) (read_blocks k s used rows) (reads_tabled k s used rows)
 
 -- what the search of a round told
-module _ (test : List Indexed → Bool) (rows : List (List ℕ)) (x : Reads) (numbered : Numbered x) {r : Searched} (is : r ≡ searched_of test rows x) where
-  pub told_failed : (r.number ≡ 0 → ⊥) → (x ≡ failed r.number) × (r ≡ record { number = r.number; unloaded = 0; found = false })
+module _ (test : List Indexed → Bool) (rows : List (List ℕ)) (x : Reads) where
+  pub told_failed : {e : Refusal} → Err e ≡ searched_of test rows x → (n : ℕ) × (x ≡ failed n) × (e ≡ refusal_of n)
   unfolding searched_of
-  told_failed fails = from x is
+  told_failed is = from x is
     where
-      from : (x : Reads) → r ≡ searched_of test rows x → (x ≡ failed r.number) × (r ≡ record { number = r.number; unloaded = 0; found = false })
-      from (failed n) is =
-          let e : n ≡ r.number = sym (ap (λ (r : Searched). r.number) is) in
-          (ap failed e, is ∙ ap (λ (n : ℕ). record { number = n; unloaded = 0; found = false }) e)
-      from (all blocks) is = absurd (fails (ap (λ (r : Searched). r.number) is))
+      from : (x : Reads) {e : Refusal} → Err e ≡ searched_of test rows x → (n : ℕ) × (x ≡ failed n) × (e ≡ refusal_of n)
+      from (failed n) is = (n, refl, cc)
+      from (all blocks) is = absurd (cc)
 
-  pub told_all : r.number ≡ 0 → (blocks : List Indexed) × (x ≡ all blocks) × (r.unloaded ≡ unloaded rows) × (r.found ≡ test blocks)
+  pub told_all : {r : Searched} → Ok r ≡ searched_of test rows x
+      → (blocks : List Indexed) × (x ≡ all blocks) × (r.unloaded ≡ unloaded rows) × (r.found ≡ test blocks)
   unfolding searched_of
-  told_all none = from x numbered is
+  told_all is = from x is
     where
-      from : (x : Reads) → Numbered x → r ≡ searched_of test rows x
+      from : (x : Reads) {r : Searched} → Ok r ≡ searched_of test rows x
           → (blocks : List Indexed) × (x ≡ all blocks) × (r.unloaded ≡ unloaded rows) × (r.found ≡ test blocks)
-      from (failed n) h is = absurd (omega (arith, h, ap (λ (r : Searched). r.number) is))
-      from (all blocks) h is = (blocks, refl, ap (λ (r : Searched). r.unloaded) is, ap (λ (r : Searched). r.found) is)
+      from (failed n) is = absurd (cc)
+      from (all blocks) {r} is =
+          let same : r ≡ record { unloaded = unloaded rows; found = test blocks } = cc in
+          (blocks, refl, ap (λ (r : Searched). r.unloaded) same, ap (λ (r : Searched). r.found) same)
 
 -- ---- The search down to a round
 
@@ -110,9 +115,9 @@ abbrev pub nearest : ℕ → ℕ → List (List BlockReference) → List (List B
 nearest above round parents = pick (eqb above (suc round)) parents []
 
 -- what the whole search answers
-abbrev pub Answered : ℕ → List ℕ → ℕ → BlockReference → ℕ → List BlockReference → List (List ℕ) → Searched → Type 0
-Answered k s used earlier high includes rows r =
-    r
+abbrev pub Answered : ℕ → List ℕ → ℕ → BlockReference → ℕ → List BlockReference → List (List ℕ) → Result Searched Refusal → Type 0
+Answered k s used earlier high includes rows o =
+    o
     ≡ searched_of (λ blocks. reaches blocks earlier high includes) (down_to earlier.round high rows)
     (read_blocks k s used (down_to earlier.round high rows))
 
@@ -139,7 +144,7 @@ module _ (k : ℕ) (s : List ℕ) (used : ℕ) (earlier : BlockReference) (high 
       (h : Searching k s used earlier high includes rows above u found parents) where
     -- no row is left
     pub searched_all : down_to earlier.round above rows ≡ [] → {f : Bool} → f ≡ pick found (eqb above earlier.round) false
-        → Answered k s used earlier high includes rows (record { number = 0; unloaded = u; found = f })
+        → Answered k s used earlier high includes rows (Ok (record { unloaded = u; found = f }))
     unfolding read_blocks joined unloaded searched_of
     searched_all none {f} is =
         let read : read_blocks k s used (down_to earlier.round high rows) ≡ all (h.done ++ []) =
@@ -151,7 +156,7 @@ module _ (k : ℕ) (s : List ℕ) (used : ℕ) (earlier : BlockReference) (high 
         ∙ ap (pick (pick found (eqb above earlier.round) false) true)
         (sym (any_same (λ l. reaches_none earlier above l) parents ∙ any_never parents))
         ∙ sym (h.truth [] tt) in
-        ap₂ (λ (u : ℕ) (f : Bool). record { number = 0; unloaded = u; found = f }) loads truth
+        ap₂ (λ (u : ℕ) (f : Bool). Ok (record { unloaded = u; found = f })) loads truth
         ∙ sym (ap (searched_of (λ blocks. reaches blocks earlier high includes) (down_to earlier.round high rows)) read)
 
     -- the next round that has rows
@@ -164,7 +169,7 @@ module _ (k : ℕ) (s : List ℕ) (used : ℕ) (earlier : BlockReference) (high 
           ∙ ap (joined (all h.done)) (reads_append k s used (by_round round rows) (down_to earlier.round round rows))
 
       pub searched_failed : {n : ℕ} → read_blocks k s used (by_round round rows) ≡ failed n
-          → Answered k s used earlier high includes rows (record { number = n; unloaded = 0; found = false })
+          → Answered k s used earlier high includes rows (Err (refusal_of n))
       unfolding joined searched_of
       searched_failed fails =
           sym (

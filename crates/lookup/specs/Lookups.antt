@@ -1,6 +1,7 @@
 -- The lookups by reference, by round, and by round and author. Document 01, "Lookups" and the order of checks: "Queries and cleanup check
 -- 1, 2, 18."
-use Rattle.std.specs.Prelude.{List, ℕ, Option, Some, None}
+use Rattle.std.specs.Prelude.{List, ℕ, Option, Some, None, Result}
+use Rattle.refusal.specs.declared.Refusal.{Refusal}
 use Rattle.types.specs.declared.BlockReference.{BlockReference}
 use Rattle.store.specs.declared.BlockStore.{BlockStore}
 use Rattle.filters.specs.Filters.{by_reference, by_round, by_author_round}
@@ -28,13 +29,13 @@ blocks_of_round c author round = asking c (call_number c) (in_round author round
 
 -- ---- The calls: k, the image and used, the store and its index, the arguments, the answer, and the answer table before and after
 
-abbrev pub GetBlock : ℕ → List ℕ → ℕ → BlockStore → List ℕ → BlockReference → Looked → List ℕ → List ℕ → Type 0
+abbrev pub GetBlock : ℕ → List ℕ → ℕ → BlockStore → List ℕ → BlockReference → Result Looked Refusal → List ℕ → List ℕ → Type 0
 GetBlock k image used store index reference r out out' = QueryAnswers (get_block (call_of k image used store index) reference) r out out'
 
-abbrev pub GetBlocksByRound : ℕ → List ℕ → ℕ → BlockStore → List ℕ → ℕ → Looked → List ℕ → List ℕ → Type 0
+abbrev pub GetBlocksByRound : ℕ → List ℕ → ℕ → BlockStore → List ℕ → ℕ → Result Looked Refusal → List ℕ → List ℕ → Type 0
 GetBlocksByRound k image used store index round r out out' =
     QueryAnswers (get_blocks_by_round (call_of k image used store index) round) r out out'
 
-abbrev pub GetBlocksAtAuthorityRound : ℕ → List ℕ → ℕ → BlockStore → List ℕ → ℕ → ℕ → Looked → List ℕ → List ℕ → Type 0
+abbrev pub GetBlocksAtAuthorityRound : ℕ → List ℕ → ℕ → BlockStore → List ℕ → ℕ → ℕ → Result Looked Refusal → List ℕ → List ℕ → Type 0
 GetBlocksAtAuthorityRound k image used store index authority round r out out' =
     QueryAnswers (get_blocks_at_authority_round (call_of k image used store index) authority round) r out out'

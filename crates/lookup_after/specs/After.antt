@@ -1,5 +1,6 @@
 -- The lookups after a round. Document 01, "Lookups" and the order of checks: "Queries and cleanup check 1, 2, 18. A query then checks 19".
-use Rattle.std.specs.Prelude.{List, ℕ, ◌-◌, ◌^◌, eqb}
+use Rattle.std.specs.Prelude.{List, ℕ, ◌-◌, ◌^◌, eqb, Result}
+use Rattle.refusal.specs.declared.Refusal.{Refusal}
 use Rattle.laws.specs.Pick.{pick}
 use Rattle.wal_position.specs.Checks.{unless}
 use Rattle.store.specs.declared.BlockStore.{BlockStore}
@@ -25,10 +26,10 @@ get_others_blocks c after authority limit = asking c (after_number c after) (oth
 
 -- ---- The calls: k, the image and used, the store and its index, the arguments, the answer, and the answer table before and after
 
-abbrev pub GetOwnBlocks : ℕ → List ℕ → ℕ → BlockStore → List ℕ → ℕ → ℕ → Looked → List ℕ → List ℕ → Type 0
+abbrev pub GetOwnBlocks : ℕ → List ℕ → ℕ → BlockStore → List ℕ → ℕ → ℕ → Result Looked Refusal → List ℕ → List ℕ → Type 0
 GetOwnBlocks k image used store index after limit r out out' =
     QueryAnswers (get_own_blocks (call_of k image used store index) after limit) r out out'
 
-abbrev pub GetOthersBlocks : ℕ → List ℕ → ℕ → BlockStore → List ℕ → ℕ → ℕ → ℕ → Looked → List ℕ → List ℕ → Type 0
+abbrev pub GetOthersBlocks : ℕ → List ℕ → ℕ → BlockStore → List ℕ → ℕ → ℕ → ℕ → Result Looked Refusal → List ℕ → List ℕ → Type 0
 GetOthersBlocks k image used store index after authority limit r out out' =
     QueryAnswers (get_others_blocks (call_of k image used store index) after authority limit) r out out'

@@ -2,103 +2,64 @@
 // Changed: written anew in Rattle, with contracts. NOTICE says what was carried across and what was changed.
 
 // Lookups after a round (block_store.rs, BlockStore's queries): own blocks, and others' blocks. Each reads the
-// blocks that it finds from the log, and writes them as rows of the table `out`.
+// blocks that it finds from the log, and writes them as rows of the table `out`. That is cleared first, since a
+// refused query leaves it all zero.
 #![tactic(auto)]
 
 ghost use Rattle.std.specs.Prelude.{◌≡◌};
-ghost use Rattle.lookup_after.specs.After.{after_number, GetOwnBlocks, GetOthersBlocks};
+ghost use Rattle.refusal.specs.Refusals.{checked};
+ghost use Rattle.store.specs.Views.{of_view};
 ghost use Rattle.query.specs.Query.{call_of};
+ghost use Rattle.lookup_after.specs.After.{after_number, GetOwnBlocks, GetOthersBlocks};
 
 use query::Looked;
-use store::BlockStore;
+use refusal::Refusal;
+use store::StoreView;
 use types::{AuthorityIndex, RoundNumber};
 
-// The number of the first check that the call does not pass, or 0.
-fn check_after(
-    k: u64,
-    image: &[u8],
-    used: u64,
-    store: BlockStore,
-    index: &[u64],
-    from_excluded: RoundNumber,
-) -> u8
-    ensures { result ≡ after_number (call_of k image.now used store index.now) from_excluded }
+// The checks of every query, then 19.
+fn check_after(view: &StoreView<'_>, from_excluded: RoundNumber) -> Result<(), Refusal>
+    ensures { result ≡ checked (after_number (of_view call_of view.now) from_excluded) }
 {
-    let number = store::check_call(k, image, used, store, index);
-    if number != 0 {
-        return number;
-    }
+    view.check()?;
     if from_excluded == filters::HIGHEST {
-        return 19;
+        return Err(Refusal::AfterRound);
     }
-    0
+    Ok(())
 }
 
 // The own authority's blocks after a round, at most `limit` of them.
 pub fn get_own_blocks(
-    k: u64,
-    image: &[u8],
-    used: u64,
-    store: BlockStore,
-    index: &[u64],
+    view: &StoreView<'_>,
     from_excluded: RoundNumber,
     limit: usize,
     out: &mut [u64],
-) -> Looked
-    ensures { GetOwnBlocks k image.now used store index.now from_excluded limit
-        result out.old out.new }
+) -> Result<Looked, Refusal>
+    ensures { of_view GetOwnBlocks view.now from_excluded limit result out.old out.new }
 {
-    let number = check_after(k, image, used, store, index, from_excluded);
-    if number != 0 {
-        return query::refuse(store, number, out);
-    }
-    let from = filters::first_above(index, store.rows, from_excluded);
-    query::answer(
-        k,
-        image,
-        used,
-        store,
-        index,
-        from,
-        store.rows,
-        Some(store.authority),
-        limit,
-        out,
-    )
+    tables::clear(out);
+    check_after(view, from_excluded)?;
+    let rows = view.rows();
+    let from = filters::first_above(rows, from_excluded);
+    query::answer(view, &rows[from..], Some(view.store.authority), limit, out)
 }
 
 // An author's blocks in the first `limit` indexed rounds after a round.
 pub fn get_others_blocks(
-    k: u64,
-    image: &[u8],
-    used: u64,
-    store: BlockStore,
-    index: &[u64],
+    view: &StoreView<'_>,
     from_excluded: RoundNumber,
     authority: AuthorityIndex,
     limit: usize,
     out: &mut [u64],
-) -> Looked
-    ensures { GetOthersBlocks k image.now used store index.now from_excluded
-        authority limit
+) -> Result<Looked, Refusal>
+    ensures { of_view GetOthersBlocks view.now from_excluded authority limit
         result out.old out.new }
 {
-    let number = check_after(k, image, used, store, index, from_excluded);
-    if number != 0 {
-        return query::refuse(store, number, out);
-    }
-    let from = filters::first_above(index, store.rows, from_excluded);
-    let to = filters::rounds_end(index, store.rows, from, limit);
-    query::answer(
-        k,
-        image,
-        used,
-        store,
-        index,
-        from,
-        to,
-        Some(authority),
-        index.len(),
-        out,
-    )
+    tables::clear(out);
+    check_after(view, from_excluded)?;
+    let rows = view.rows();
+    let from = filters::first_above(rows, from_excluded);
+    let later = &rows[from..];
+    let to = filters::rounds_end(later, limit);
+    query::answer(view, &later[..to], Some(authority), rows.len(), out)
 }

@@ -4,18 +4,21 @@ use mathlib.Core.Bool.{Bool, true, false}
 use mathlib.Core.List.{List, [], ◌∷◌, ◌++◌, append_assoc, append-nil}
 use mathlib.Core.Logic.{⊎_elim}
 use Prim.Native.Nat.{ℕ, zero, suc, ◌+◌, ◌-◌, ◌*◌, ◌/◌, ◌≤◌, ◌<◌}
+use native.Mathlib.Numerals.{add-one}
 use native.Mathlib.Omega.{arith}
-use lib.Dec.{eqb, lit<}
+use lib.Dec.{eqb}
 use Rattle.std.specs.Prelude.{Option, Result}
 use Rattle.std.proofs.Common.{Ok, Err}
-use lib.ListN.{length, take, get_or, length-append}
+use lib.ListN.{length, take, drop, get_or, length-append, drop_of_length-le}
+use lib.Seq.{drop-cons}
 use borrow.Author.Tests.{lt-ltb, le-ltb}
+use Rattle.refusal.specs.declared.Refusal.{Refusal}
+use Rattle.wal_position.specs.declared.Log.{Log}
+use Rattle.wal_position.specs.Logs.{of_log}
 use Rattle.laws.specs.Pick.{pick}
 use Rattle.laws.specs.Bytes.{zeros, written}
 use Rattle.laws.proofs.Tests.{leb_cases}
-use Rattle.rows.specs.Rows.{row_at}
 use Rattle.tables.specs.Tables.{Table}
-use Rattle.rows.proofs.Rows.{rows_from, rows_from_none, rows_from_cons}
 use Rattle.tables.proofs.Tables.{table_empty, push_table}
 use Rattle.types.specs.declared.BlockReference.{BlockReference}
 use Rattle.index.specs.Keys.{key_words, digest_words}
@@ -26,11 +29,10 @@ use Rattle.block_reader.specs.Reading.{BlockRead, block_at, read_of}
 use Rattle.query.specs.Query.{answer_row, Blocks, failed, all, also, followed_by, read_rows, unloaded}
 use Rattle.filters.specs.Filters.{author_of}
 use Rattle.filters.specs.Filters as filters
-use Rattle.filters.specs.Segments.{is_author, between, chosen}
+use Rattle.filters.specs.Segments.{is_author, chosen}
 use Rattle.query.specs.Collecting.{collected_of, HoldsRows, answer_put}
-use Rattle.store.proofs.Words.{word_row_at}
-use Rattle.filters.proofs.Keeping.{keep_yes, keep_no, between_rows}
-use Rattle.block_reader.proofs.Reading.{block_at_numbered, told_refused, told_got}
+use Rattle.filters.proofs.Keeping.{keep_yes, keep_no}
+use Rattle.block_reader.proofs.Reading.{told_refused, told_got}
 
 -- ---- The rows that are chosen, by the first one
 
@@ -115,162 +117,119 @@ one_unloaded r rows = by (eqb (get_or r 7 0) 0)
 
 -- ---- The loop
 
--- n rows are found, u of their blocks are not loaded, and the rows `rest` are still to come
-pub record Collecting (k : ℕ) (s : List ℕ) (used : ℕ) (author : Option ℕ) (limit : ℕ) (rows rest : List (List ℕ)) (n u : ℕ) (out : List ℕ) : Type 0 where
-  done : List (List ℕ)
-  counted : n ≡ length done
-  pub within : n ≤ limit
-  pub few : u ≤ n
-  reads : read_rows k s used (chosen author limit rows) ≡ behind done (read_rows k s used (chosen author (limit - n) rest))
-  loads : unloaded (chosen author limit rows) ≡ u + unloaded (chosen author (limit - n) rest)
-  table : n ≤ length out / 8 → Table out n done
+module _ (log : Log) (author : Option ℕ) (limit : ℕ) (rows : List (List ℕ)) where
+  -- the blocks that are asked for
+  abbrev blocks : Blocks
+  blocks = of_log read_rows log (chosen author limit rows)
 
-module _ (k : ℕ) (s : List ℕ) (used : ℕ) (author : Option ℕ) (limit : ℕ) where
-  pub collecting_start : (rows : List (List ℕ)) (out : List ℕ) → out ≡ zeros (length out) → Collecting k s used author limit rows rows 0 0 out
-  collecting_start rows out h =
+  -- the rows that are still to come from row i on, once n are found
+  abbrev to_come : ℕ → ℕ → List (List ℕ)
+  to_come i n = chosen author (limit - n) (drop i rows)
+
+  -- n rows are found before row i, and u of their blocks are not loaded
+  pub record Collecting (i n u : ℕ) (out : List ℕ) : Type 0 where
+    done : List (List ℕ)
+    counted : n ≡ length done
+    pub few : u ≤ n
+    reads : blocks ≡ behind done (of_log read_rows log (to_come i n))
+    loads : unloaded (chosen author limit rows) ≡ u + unloaded (to_come i n)
+    table : n ≤ length out / 8 → Table out n done
+
+  pub collecting_start : (out : List ℕ) → out ≡ zeros (length out) → Collecting 0 0 0 out
+  collecting_start out h =
       let e : limit ≡ limit - 0 = omega arith in
       record {
         done = [];
         counted = refl;
-        within = omega arith;
         few = omega arith;
-        reads = behind_nothing _ ∙ ap (λ (m : ℕ). behind [] (read_rows k s used (chosen author m rows))) e;
+        reads = behind_nothing _ ∙ ap (λ (m : ℕ). behind [] (of_log read_rows log (chosen author m rows))) e;
         loads = omega (arith, ap (λ (m : ℕ). unloaded (chosen author m rows)) e);
         table = λ fits. table_empty out h;
       }
 
-  module _ {rows rest : List (List ℕ)} {n u : ℕ} {out : List ℕ} (h : Collecting k s used author limit rows rest n u out) where
+  -- what is answered, and what the table holds
+  abbrev Answered : Result Collected Refusal → List ℕ → Type 0
+  Answered c out = (c ≡ collected_of (chosen author limit rows) blocks) × HoldsRows blocks out
+
+  module _ {i n u : ℕ} {out : List ℕ} (h : Collecting i n u out) where
     -- nothing more is chosen
-    collected : {c : Result Collected ℕ} → chosen author (limit - n) rest ≡ [] → c ≡ Ok (record { rows = n; unloaded = u })
-        → (c ≡ collected_of (chosen author limit rows) (read_rows k s used (chosen author limit rows)))
-        × HoldsRows (read_rows k s used (chosen author limit rows)) out
+    collected : to_come i n ≡ [] → Answered (Ok (record { rows = n; unloaded = u })) out
     unfolding behind read_rows collected_of unloaded
-    collected none is =
-        let found : read_rows k s used (chosen author limit rows) ≡ all h.done =
-        h.reads ∙ ap (λ (l : List (List ℕ)). behind h.done (read_rows k s used l)) none ∙ ap all (append-nil h.done) in
+    collected none =
+        let found : blocks ≡ all h.done =
+        h.reads ∙ ap (λ (l : List (List ℕ)). behind h.done (of_log read_rows log l)) none ∙ ap all (append-nil h.done) in
         let count : n ≡ length h.done = h.counted in
-        let not_loaded : u ≡ unloaded (chosen author limit rows) =
-        omega (arith, h.loads, ap unloaded none) in (
-          is
-              ∙ ap₂ (λ (n u : ℕ). Ok (record { rows = n; unloaded = u })) count not_loaded
-              ∙ sym (ap (collected_of (chosen author limit rows)) found),
+        let not_loaded : u ≡ unloaded (chosen author limit rows) = omega (arith, h.loads, ap unloaded none) in (
+          ap₂ (λ (n u : ℕ). Ok (record { rows = n; unloaded = u })) count not_loaded ∙ sym (ap (collected_of (chosen author limit rows)) found),
           subst (λ (b : Blocks). HoldsRows b out) (sym found) (λ fits. (h.table (omega (arith, fits, h.counted))).words),
         )
 
-    pub collected_end : {c : Result Collected ℕ} → rest ≡ [] → c ≡ Ok (record { rows = n; unloaded = u })
-        → (c ≡ collected_of (chosen author limit rows) (read_rows k s used (chosen author limit rows)))
-        × HoldsRows (read_rows k s used (chosen author limit rows)) out
-    collected_end none is = collected (ap (chosen author (limit - n)) none ∙ chosen_nothing author (limit - n)) is
+    pub collected_end : length rows ≤ i → Answered (Ok (record { rows = n; unloaded = u })) out
+    collected_end ended = collected (ap (chosen author (limit - n)) (drop_of_length-le rows {i = i} ended) ∙ chosen_nothing author (limit - n))
 
-    pub collected_limit : {c : Result Collected ℕ} → limit ≤ n → c ≡ Ok (record { rows = n; unloaded = u })
-        → (c ≡ collected_of (chosen author limit rows) (read_rows k s used (chosen author limit rows)))
-        × HoldsRows (read_rows k s used (chosen author limit rows)) out
-    collected_limit full is =
+    pub collected_limit : limit ≤ n → Answered (Ok (record { rows = n; unloaded = u })) out
+    collected_limit full =
         let none : limit - n ≡ 0 = omega arith in
-        collected (ap (λ (m : ℕ). chosen author m rest) none ∙ chosen_zero author rest) is
+        collected (ap (λ (m : ℕ). chosen author m (drop i rows)) none ∙ chosen_zero author (drop i rows))
 
-    module _ (r : List ℕ) (rest' : List (List ℕ)) (first : rest ≡ r ∷ rest') where
-      pub collecting_skip : selects author r ≡ false → Collecting k s used author limit rows rest' n u out
+    module _ (more : i < length rows) where
+      abbrev row : List ℕ
+      row = get_or rows i []
+
+      cons : drop i rows ≡ row ∷ drop (i + 1) rows
+      cons = rw add-one (drop-cons rows i [] more)
+
+      pub collecting_skip : selects author row ≡ false → Collecting (i + 1) n u out
       collecting_skip e =
-          let same : chosen author (limit - n) rest ≡ chosen author (limit - n) rest' =
-          ap (chosen author (limit - n)) first ∙ chosen_no author r rest' (limit - n) e in
+          let same : to_come i n ≡ to_come (i + 1) n = ap (chosen author (limit - n)) cons ∙ chosen_no author row (drop (i + 1) rows) (limit - n) e in
           record {
             done = h.done;
             counted = h.counted;
-            within = h.within;
             few = h.few;
-            reads = h.reads ∙ ap (λ (l : List (List ℕ)). behind h.done (read_rows k s used l)) same;
+            reads = h.reads ∙ ap (λ (l : List (List ℕ)). behind h.done (of_log read_rows log l)) same;
             loads = h.loads ∙ ap (λ (l : List (List ℕ)). u + unloaded l) same;
             table = h.table;
           }
 
-      module _ (e : selects author r ≡ true) (more : n < limit) {b : ReadBlock} (is : b ≡ read_of (block_at k s used (get_or r 6 0))) where
-        takes : chosen author (limit - n) rest ≡ r ∷ chosen author (limit - (n + 1)) rest'
+      module _ (e : selects author row ≡ true) (room : n < limit) where
+        takes : to_come i n ≡ row ∷ to_come (i + 1) (n + 1)
         takes =
             let some : limit - n ≡ suc (limit - (n + 1)) = omega arith in
-            ap₂ (λ (m : ℕ) (l : List (List ℕ)). chosen author m l) some first ∙ chosen_yes author r rest' (limit - (n + 1)) e
+            ap₂ (λ (m : ℕ) (l : List (List ℕ)). chosen author m l) some cons ∙ chosen_yes author row (drop (i + 1) rows) (limit - (n + 1)) e
 
-        reads_next : read_rows k s used (chosen author limit rows)
-            ≡ behind h.done (followed_by (block_at k s used (get_or r 6 0)) (read_rows k s used (chosen author (limit - (n + 1)) rest')))
+        -- the blocks, by what the read of the row's is
+        reads_next : {x : BlockRead} → of_log block_at log (get_or row 6 0) ≡ x
+            → blocks ≡ behind h.done (followed_by x (of_log read_rows log (to_come (i + 1) (n + 1))))
         unfolding read_rows
-        reads_next = h.reads ∙ ap (λ (l : List (List ℕ)). behind h.done (read_rows k s used l)) takes
+        reads_next is =
+            h.reads
+            ∙ ap (λ (l : List (List ℕ)). behind h.done (of_log read_rows log l)) takes
+            ∙ ap (λ (x : BlockRead). behind h.done (followed_by x (of_log read_rows log (to_come (i + 1) (n + 1))))) is
 
         -- a block that cannot be read
-        pub collected_refused : (b.number ≡ 0 → ⊥) → {c : Result Collected ℕ} → c ≡ Err b.number
-            → (c ≡ collected_of (chosen author limit rows) (read_rows k s used (chosen author limit rows)))
-            × HoldsRows (read_rows k s used (chosen author limit rows)) out
+        pub collected_refused : {r : Refusal} → Err r ≡ read_of (of_log block_at log (get_or row 6 0)) → Answered (Err r) out
         unfolding behind followed_by collected_of
-        collected_refused found made =
-            let fails : read_rows k s used (chosen author limit rows) ≡ failed b.number =
-            reads_next
-            ∙ ap (λ (x : BlockRead). behind h.done (followed_by x (read_rows k s used (chosen author (limit - (n + 1)) rest'))))
-            (told_refused _ (block_at_numbered k s used (get_or r 6 0)) is found) in (
-              made ∙ sym (ap (collected_of (chosen author limit rows)) fails),
+        collected_refused is =
+            let told = told_refused (of_log block_at log (get_or row 6 0)) is in
+            let fails : blocks ≡ failed told.0 = reads_next told.1 in (
+              ap Err told.2 ∙ sym (ap (collected_of (chosen author limit rows)) fails),
               subst (λ (b : Blocks). HoldsRows b out) (sym fails) tt,
             )
 
         -- one that can, and its row of the answer
-        pub collecting_next : b.number ≡ 0 → (out' : List ℕ) → out' ≡ answer_put out n (answer_row b.reference b.at b.len)
-            → (v : ℕ) → v ≡ pick (eqb (get_or r 7 0) 0) 1 0 → Collecting k s used author limit rows rest' (n + 1) (u + v) out'
+        pub collecting_next : {b : ReadBlock} → Ok b ≡ read_of (of_log block_at log (get_or row 6 0))
+            → {out' : List ℕ} → out' ≡ answer_put out n (answer_row b.reference b.bytes.at b.bytes.left)
+            → {v : ℕ} → v ≡ pick (eqb (get_or row 7 0) 0) 1 0 → Collecting (i + 1) (n + 1) (u + v) out'
         unfolding followed_by
-        collecting_next zero_number out' put v loads_more =
-            let row : List ℕ = answer_row b.reference b.at b.len in
+        collecting_next {b} is {out'} put {v} loads_more =
+            let found : List ℕ = answer_row b.reference b.bytes.at b.bytes.left in
             record {
-              done = h.done ++ (row ∷ []);
-              counted = omega (arith, h.counted, length-append h.done (row ∷ []));
-              within = omega arith;
-              few = omega (arith, h.few, at_most_one (eqb (get_or r 7 0) 0), loads_more);
+              done = h.done ++ (found ∷ []);
+              counted = omega (arith, h.counted, length-append h.done (found ∷ []));
+              few = omega (arith, h.few, at_most_one (eqb (get_or row 7 0) 0), loads_more);
               reads =
-                  reads_next
-                  ∙ ap (λ (x : BlockRead). behind h.done (followed_by x (read_rows k s used (chosen author (limit - (n + 1)) rest'))))
-                  (told_got _ (block_at_numbered k s used (get_or r 6 0)) is zero_number)
-                  ∙ behind_also h.done row (read_rows k s used (chosen author (limit - (n + 1)) rest'));
-              loads = omega (arith, h.loads, ap unloaded takes, one_unloaded r (chosen author (limit - (n + 1)) rest'), loads_more);
-              table = push_row out n h.done row out' (length_answer_row b.reference b.at b.len) put h.table;
+                  reads_next (told_got (of_log block_at log (get_or row 6 0)) is)
+                  ∙ behind_also h.done found (of_log read_rows log (to_come (i + 1) (n + 1)));
+              loads = omega (arith, h.loads, ap unloaded takes, one_unloaded row (to_come (i + 1) (n + 1)), loads_more);
+              table = push_row out n h.done found out' (length_answer_row b.reference b.bytes.at b.bytes.left) put h.table;
             }
-
--- ---- The loop at row i of a table
-
-module _ (k : ℕ) (s : List ℕ) (used : ℕ) (author : Option ℕ) (limit : ℕ) (w : List ℕ) (from to : ℕ) where
-  abbrev pub AtRow : ℕ → ℕ → ℕ → List ℕ → Type 0
-  AtRow i n u out = Collecting k s used author limit (between from to w) (rows_from w i to) n u out
-
-  pub row_start : (out : List ℕ) → out ≡ zeros (length out) → AtRow from 0 0 out
-  row_start out clear =
-      subst (λ (l : List (List ℕ)). Collecting k s used author limit (between from to w) l 0 0 out) (between_rows from to w)
-      (collecting_start k s used author limit (between from to w) out clear)
-
-  -- what is answered, and what the table holds
-  abbrev Answered : Result Collected ℕ → List ℕ → Type 0
-  Answered c out =
-      (c ≡ collected_of (chosen author limit (between from to w)) (read_rows k s used (chosen author limit (between from to w))))
-      × HoldsRows (read_rows k s used (chosen author limit (between from to w))) out
-
-  module _ (i n u : ℕ) (out : List ℕ) (h : AtRow i n u out) where
-    pub row_end : to ≤ i → Answered (Ok (record { rows = n; unloaded = u })) out
-    row_end ended = collected_end k s used author limit h (rows_from_none w i to ended) refl
-
-    pub row_limit : limit ≤ n → Answered (Ok (record { rows = n; unloaded = u })) out
-    row_limit full = collected_limit k s used author limit h full refl
-
-    module _ (more : i < to) {t : Bool} (test : t ≡ is_author author (get_or w (8 * i + 1) 0)) where
-      selected : selects author (row_at w i) ≡ t
-      unfolding author_of
-      selected = ap (is_author author) (word_row_at w i 1 (lit< tt)) ∙ sym test
-
-      pub row_skip : t ≡ false → AtRow (i + 1) n u out
-      row_skip e = collecting_skip k s used author limit h (row_at w i) (rows_from w (i + 1) to) (rows_from_cons w i to more) (selected ∙ e)
-
-      module _ (e : t ≡ true) (room : n < limit) {b : ReadBlock} (is : b ≡ read_of (block_at k s used (get_or w (8 * i + 6) 0))) where
-        read_row : b ≡ read_of (block_at k s used (get_or (row_at w i) 6 0))
-        read_row = is ∙ ap (λ (p : ℕ). read_of (block_at k s used p)) (sym (word_row_at w i 6 (lit< tt)))
-
-        pub row_refused : (b.number ≡ 0 → ⊥) → Answered (Err b.number) out
-        row_refused found =
-            collected_refused k s used author limit h (row_at w i) (rows_from w (i + 1) to) (rows_from_cons w i to more) (selected ∙ e) room read_row found refl
-
-        pub row_next : b.number ≡ 0 → {out' : List ℕ} {v : ℕ} → out' ≡ answer_put out n (answer_row b.reference b.at b.len)
-            → v ≡ pick (eqb (get_or w (8 * i + 7) 0) 0) 1 0 → AtRow (i + 1) (n + 1) (u + v) out'
-        row_next zero_number {out'} {v} put loads_more =
-            collecting_next k s used author limit h (row_at w i) (rows_from w (i + 1) to) (rows_from_cons w i to more) (selected ∙ e) room read_row
-            zero_number out' put v (loads_more ∙ ap (λ (x : ℕ). pick (eqb x 0) 1 0) (sym (word_row_at w i 7 (lit< tt))))

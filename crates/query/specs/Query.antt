@@ -1,8 +1,10 @@
 -- What a query answers. Document 01, "Lookups" and the order of checks: "A query then checks 19, then for each block it reads, in answer
 -- order, a read's numbers, 8, and 9 or 10; last 15. A refused query counts no load".
-use Rattle.std.specs.Prelude.{◌≡◌, List, [], ◌∷◌, ◌++◌, ℕ, suc, ◌+◌, ◌-◌, ◌/◌, ◌^◌, min, leb, length, get_or}
+use Rattle.std.specs.Prelude.{◌≡◌, List, [], ◌∷◌, ◌++◌, ℕ, suc, ◌+◌, ◌-◌, ◌/◌, ◌^◌, min, leb, length, get_or, Result, Ok, Err}
 use Rattle.laws.specs.Pick.{pick}
 use Rattle.laws.specs.Bytes.{zeros}
+use Rattle.refusal.specs.declared.Refusal.{Refusal}
+use Rattle.refusal.specs.Refusals.{refusal_of}
 use Rattle.types.specs.declared.BlockReference.{BlockReference}
 use Rattle.wal_position.specs.Checks.{unless}
 use Rattle.tables.specs.Tables.{table_of}
@@ -64,9 +66,9 @@ unfoldable pub fitting : ℕ → Blocks → Query
 fitting lent (failed n) = refused n
 fitting lent (all rows) = pick (leb (length rows) lent) (answers rows) (refused 15)
 
-unfoldable pub looked_up : BlockStore → List (List ℕ) → Query → Looked
-looked_up store chosen (refused n) = record { number = n; rows = 0; store = store }
-looked_up store chosen (answers rows) = record { number = 0; rows = length rows; store = counted store (unloaded chosen) }
+unfoldable pub looked_up : BlockStore → List (List ℕ) → Query → Result Looked Refusal
+looked_up store chosen (refused n) = Err (refusal_of n)
+looked_up store chosen (answers rows) = Ok (record { rows = length rows; store = counted store (unloaded chosen) })
 
 -- "a refused .. query leaves its answer tables all zero"; "unused answer rows are zero"
 unfoldable pub answer_words : ℕ → Query → List ℕ
@@ -104,13 +106,13 @@ unfoldable pub query : Question → ℕ → Query
 query q lent = unless q.number refused (fitting lent (read_rows q.call.exponent q.call.image q.call.used q.chosen))
 
 -- the answer, and the words of the answer table, where `words` words are lent for it
-unfoldable pub looked : Question → ℕ → Looked
+unfoldable pub looked : Question → ℕ → Result Looked Refusal
 looked q words = looked_up q.call.store q.chosen (query q (words / 8))
 
 unfoldable pub looked_table : Question → ℕ → List ℕ
 looked_table q words = answer_words words (query q (words / 8))
 
 -- the contract of a query: `out` is the table lent for the answer, `out'` what it holds after the call
-pub record QueryAnswers (q : Question) (r : Looked) (out out' : List ℕ) : Type 0 where
+pub record QueryAnswers (q : Question) (r : Result Looked Refusal) (out out' : List ℕ) : Type 0 where
   pub answer : r ≡ looked q (length out)
   pub words : out' ≡ looked_table q (length out)

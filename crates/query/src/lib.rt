@@ -6,22 +6,24 @@
 // bytes stand in the image.
 #![tactic(auto)]
 
-ghost use Rattle.std.specs.Prelude.{◌≡◌, [], ◌*◌, ◌≤◌, length};
+ghost use Rattle.std.specs.Prelude.{◌≡◌, length};
 ghost use Rattle.laws.specs.Bytes.{zeros};
-ghost use Rattle.query.specs.Query.{answer_row, read_rows, counted, looked_up, call_of, QueryAnswers};
-ghost use Rattle.query.specs.Query as queries;
-ghost use Rattle.filters.specs.Segments.{between, chosen};
-ghost use Rattle.query.specs.Collecting.{collected_of, HoldsRows, answer_put, FinishesQuery};
+ghost use Rattle.wal_position.specs.Logs.{of_log};
+ghost use Rattle.store.specs.Views.{of_view};
+ghost use Rattle.filters.specs.Segments.{chosen};
+ghost use Rattle.query.specs.Query.{answer_row, read_rows, counted, call_of, QueryAnswers};
+ghost use Rattle.query.specs.Collecting.{collected_of, HoldsRows, answer_put, finished};
 
+use bincode::Cursor;
 use block_reader::ReadBlock;
-use store::BlockStore;
+use refusal::Refusal;
+use store::{BlockStore, StoreView};
 use types::AuthorityIndex;
-use wal_position::WalPosition;
+use wal_position::{Log, WalPosition};
 
-// The number of a refusal, or 0, the rows found, and the store with the loads counted.
+// How many rows were found, and the store with the loads counted.
 #[derive(Clone, Copy)]
 pub struct Looked {
-    pub number: u8,
     pub rows: usize,
     pub store: BlockStore,
 }
@@ -35,115 +37,90 @@ struct Collected {
 
 // Stores a row in the answer table where there is room for it.
 fn put_answer(out: &mut [u64], i: usize, block: ReadBlock)
-    ensures { out.new ≡ answer_put out.old i (answer_row block.reference block.at block.len) }
+    ensures { out.new ≡ answer_put out.old i
+        (answer_row block.reference block.bytes.at block.bytes.left) }
 {
     if i < out.len() / 8 {
         let [a, b, c, d, e, f] = index::key_of(block.reference);
-        tables::put_row(
-            out,
-            i,
-            [a, b, c, d, e, f, block.at as u64, block.len as u64],
-        );
+        let Cursor { at, left } = block.bytes;
+        tables::put_row(out, i, [a, b, c, d, e, f, at as u64, left as u64]);
     }
 }
 
-// Reads the blocks of the rows from `from` up to `to`, of an author or of every one, at most `limit` of
-// them, into an answer table of zeros, or answers a refusal's number. All are read, also where the table
-// is full: 15 comes last.
+// Reads the blocks of the rows of an author, or of every one, at most `limit` of them, into an answer
+// table of zeros. All are read, also where the table is full: that too few rows are lent is told last.
 fn collect(
-    k: u64,
-    image: &[u8],
-    used: u64,
-    index: &[u64],
-    from: usize,
-    to: usize,
+    log: &Log<'_>,
+    rows: &[[u64; 8]],
     author: Option<AuthorityIndex>,
     limit: usize,
     out: &mut [u64],
-) -> Result<Collected, u8>
-    requires { (8 * to ≤ length index.now) × (out.old ≡ zeros (length out.old)) }
-    ensures value { result ≡ collected_of (chosen author limit (between from to index.now))
-        (read_rows k image.now used (chosen author limit (between from to index.now))) }
+) -> Result<Collected, Refusal>
+    requires { out.old ≡ zeros (length out.old) }
+    ensures value { result ≡ collected_of (chosen author limit rows.now)
+        (of_log read_rows log.now (chosen author limit rows.now)) }
     ensures holds_rows { HoldsRows
-        (read_rows k image.now used (chosen author limit (between from to index.now)))
+        (of_log read_rows log.now (chosen author limit rows.now))
         out.new }
 {
     let mut n = 0;
     let mut unloaded = 0;
-    for i in from..to {
-        if filters::is_chosen(index, i, author) {
+    for row in rows {
+        if filters::is_chosen(row, author) {
             if limit <= n {
-                return Ok(Collected { rows: n, unloaded });
+                break;
             }
-            let b = block_reader::read_block(k, image, used, WalPosition(index[8 * i + 6]));
-            if b.number != 0 {
-                return Err(b.number);
-            }
-            put_answer(out, n, b);
-            unloaded += filters::not_loaded(index, i);
+            let block = block_reader::read_block(log, WalPosition(row[6]))?;
+            put_answer(out, n, block);
+            unloaded += filters::not_loaded(row);
             n += 1;
         }
     }
     Ok(Collected { rows: n, unloaded })
 }
 
-// The answer of a query whose rows were collected: more rows than lent are refused, and a refusal
-// leaves no word in the table.
-fn finish(store: BlockStore, collected: Result<Collected, u8>, out: &mut [u64]) -> Looked
-    ensures { FinishesQuery store collected result out.old out.new }
+// The answer of a query whose rows were collected: more rows than lent are refused.
+fn finish(
+    store: BlockStore,
+    collected: Result<Collected, Refusal>,
+    lent: usize,
+) -> Result<Looked, Refusal>
+    ensures { result ≡ finished store collected lent }
 {
-    match collected {
-        Err(number) => refuse(store, number, out),
-        Ok(found) => {
-            if out.len() / 8 < found.rows {
-                return refuse(store, 15, out);
-            }
-            Looked {
-                number: 0,
-                rows: found.rows,
-                store: count_loads(store, found.unloaded),
-            }
-        }
+    let found = collected?;
+    if lent < found.rows {
+        return Err(Refusal::Rows);
     }
+    Ok(Looked {
+        rows: found.rows,
+        store: count_loads(store, found.unloaded),
+    })
 }
 
-// A query that no check refused, for the rows that `collect` reads.
+// A query that no check refused, of these rows, with a table of zeros for its answer. A refusal
+// leaves no word in the table.
 pub fn answer(
-    k: u64,
-    image: &[u8],
-    used: u64,
-    store: BlockStore,
-    index: &[u64],
-    from: usize,
-    to: usize,
+    view: &StoreView<'_>,
+    rows: &[[u64; 8]],
     author: Option<AuthorityIndex>,
     limit: usize,
     out: &mut [u64],
-) -> Looked
-    requires { 8 * to ≤ length index.now }
+) -> Result<Looked, Refusal>
+    requires { out.old ≡ zeros (length out.old) }
     ensures { QueryAnswers
         (record {
-          call = call_of k image.now used store index.now;
+          call = of_view call_of view.now;
           number = 0;
-          chosen = chosen author limit (between from to index.now);
+          chosen = chosen author limit rows.now;
         })
         result out.old out.new }
 {
-    tables::clear(out);
-    let c = collect(k, image, used, index, from, to, author, limit, out);
-    finish(store, c, out)
-}
-
-pub fn refuse(store: BlockStore, number: u8, out: &mut [u64]) -> Looked
-    ensures value { result ≡ looked_up store [] (queries.Query.refused number) }
-    ensures out_after { out.new ≡ zeros (length out.old) }
-{
-    tables::clear(out);
-    Looked {
-        number,
-        rows: 0,
-        store,
+    let collected = collect(&view.log, rows, author, limit, out);
+    let looked = finish(view.store, collected, out.len() / 8);
+    if looked.is_err() {
+        tables::clear(out);
     }
+    looked
 }
 
 // The counter stays at its highest number.

@@ -3,26 +3,29 @@ use mathlib.Core.Path.{◌≡◌, refl, sym, ap, ap₂, ◌∙◌, subst}
 use mathlib.Core.Bool.{Bool, true, false}
 use mathlib.Core.List.{List, [], ◌∷◌, ◌++◌}
 use Prim.Native.Nat.{ℕ, ◌+◌, ◌-◌, ◌*◌, ◌≤◌, ◌<◌}
+use native.Mathlib.Numerals.{add-one}
 use native.Mathlib.Omega.{arith}
-use lib.Dec.{eqb, lit<}
-use lib.ListN.{length, drop, get_or}
-use lib.Seq.{drop-drop, drop-append-le}
+use lib.Dec.{eqb}
+use lib.ListN.{length, take, drop, get_or, length-take, take-append-drop}
+use lib.Seq.{drop-drop, drop-append-le, drop-cons, take_all, take-suc}
 use mir.Val.{bool_byte}
-use Rattle.std.proofs.Common.{Option, Some, None}
+use Rattle.std.proofs.Common.{Option, Some, None, Result, Ok, Err}
+use Rattle.refusal.specs.declared.Refusal.{Refusal}
+use Rattle.wal_position.specs.declared.Log.{Log}
+use Rattle.wal_position.specs.Logs.{of_log}
 use Rattle.laws.specs.Pick.{pick}
 use Rattle.laws.specs.Bytes.{bytes_at, written, AllBytes}
 use Rattle.laws.proofs.Written.{length_written, drop_written}
-use Rattle.rows.specs.Rows.{rows_of, row_at}
-use Rattle.rows.proofs.Rows.{length_rows_of, rows_from, rows_from_none, rows_from_split, rows_of_pushed, drop_rows_of}
+use Rattle.rows.specs.Rows.{rows_of}
+use Rattle.rows.proofs.Rows.{length_rows_of, rows_from, rows_from_none, rows_of_pushed, drop_rows_of}
 use Rattle.types.specs.declared.BlockReference.{BlockReference}
-use Rattle.store.proofs.Words.{word_row_at}
 use Rattle.block_reader.specs.declared.ReadBlock.{ReadBlock}
 use Rattle.block_reader.specs.Reading as reading
 use Rattle.block_reader.specs.Reading.{BlockRead, block_at, read_of}
 use Rattle.filters.specs.Filters.{round_of}
 use Rattle.query.specs.Query.{unloaded}
 use Rattle.filters.specs.Segments.{between}
-use Rattle.block_reader.proofs.Reading.{block_at_numbered, told_refused, told_got}
+use Rattle.block_reader.proofs.Reading.{told_refused, told_got}
 use Rattle.filters.proofs.Keeping.{between_rows}
 use Rattle.query.proofs.Collecting.{one_unloaded}
 use Rattle.reach.specs.declared.Searched.{Searched}
@@ -36,11 +39,6 @@ use Rattle.block_reader.proofs.Decoding.{read_decodes}
 use Rattle.includes.proofs.Tests.{or_false}
 
 -- ---- Rows: one more, and those behind the ones that are written
-
-rows_from_next : (w : List ℕ) (i n : ℕ) → i ≤ n → rows_from w i (n + 1) ≡ rows_from w i n ++ (row_at w n ∷ [])
-rows_from_next w i n h =
-    rows_from_split w i n (n + 1) h (omega arith)
-    ∙ ap (λ (l : List (List ℕ)). rows_from w i n ++ row_at w n ∷ l) (rows_from_none w (n + 1) (n + 1) (omega arith))
 
 module _ (w : List ℕ) (i : ℕ) (row : List ℕ) (eight : length row ≡ 8) (fits : 8 * i + 8 ≤ length w) where
   rows_pushed : (from : ℕ) → from ≤ i → rows_from (written w (8 * i) row) from (i + 1) ≡ rows_from w from i ++ (row ∷ [])
@@ -82,47 +80,51 @@ meets_next earlier parents done b {found} {t} f e =
     ∙ ap (pick (meets earlier parents done) true) (sym (or_false _))
     ∙ sym (any_append (λ (b : Indexed). pick (is_reached parents b.reference) (same b.reference earlier) false) done (b ∷ []))
 
--- ---- The loop at row i
+-- ---- The loop at row i of the round
 
--- the index is w, and the working rows were work₀
-pub record Reaching (k : ℕ) (s : List ℕ) (used : ℕ) (earlier : BlockReference) (parents : List (List BlockReference)) (w : List ℕ) (from to : ℕ)
-    (work₀ work : List ℕ) (i u : ℕ) (found : Bool) : Type 0 where
-  pub start : from ≤ i
-  pub within : i ≤ to
-  done : List Indexed
-  reads : read_blocks k s used (rows_from w from i) ≡ all done
-  loads : u ≡ unloaded (rows_from w from i)
-  met : found ≡ meets earlier parents done
-  placed : AllBlockPlaces s (rows_from work from i)
-  marked : reached_in s (rows_from work from i) ≡ next_parents parents done
-  behind : drop (8 * to) work ≡ drop (8 * to) work₀
-  pub as_long : length work ≡ length work₀
+-- the round's working rows begin at row `from`, and those of the parents behind them
+module _ (log : Log) (earlier : BlockReference) (parents : List (List BlockReference)) (rows : List (List ℕ)) (from : ℕ) where
+  abbrev s : List ℕ
+  s = log.image.now
 
--- what is answered, and what the working rows hold
-abbrev Reached : ℕ → List ℕ → ℕ → BlockReference → List (List BlockReference) → List ℕ → ℕ → ℕ → Searched → List ℕ → Type 0
-Reached k s used earlier parents w from to r work =
-    (r ≡ searched_of (meets earlier parents) (between from to w) (read_blocks k s used (between from to w)))
-    × Marked s parents (between from to work) (read_blocks k s used (between from to w))
+  abbrev to : ℕ
+  to = from + length rows
 
-module _ (k : ℕ) (s : List ℕ) (used : ℕ) (earlier : BlockReference) (parents : List (List BlockReference)) (w : List ℕ) (from to : ℕ) where
-  pub reaching_start : (work : List ℕ) → from ≤ to → Reaching k s used earlier parents w from to work work from 0 false
+  -- the working rows were work₀
+  pub record Reaching (work₀ work : List ℕ) (i u : ℕ) (found : Bool) : Type 0 where
+    pub within : i ≤ length rows
+    done : List Indexed
+    reads : of_log read_blocks log (take i rows) ≡ all done
+    loads : u ≡ unloaded (take i rows)
+    met : found ≡ meets earlier parents done
+    placed : AllBlockPlaces s (rows_from work from (from + i))
+    marked : reached_in s (rows_from work from (from + i)) ≡ next_parents parents done
+    behind : drop (8 * to) work ≡ drop (8 * to) work₀
+    pub as_long : length work ≡ length work₀
+
+  -- what is answered, and what the working rows hold
+  abbrev Reached : Result Searched Refusal → List ℕ → Type 0
+  Reached o work =
+      (o ≡ searched_of (meets earlier parents) rows (of_log read_blocks log rows))
+      × Marked s parents (between from to work) (of_log read_blocks log rows)
+
+  pub reaching_start : (work : List ℕ) → Reaching work work 0 0 false
   unfolding read_blocks unloaded meets any reached_in next_parents
-  reaching_start work h =
-      let none : (l : List ℕ) → rows_from l from from ≡ [] = (λ l. rows_from_none l from from (omega arith)) in
+  reaching_start work =
+      let none : rows_from work from (from + 0) ≡ [] = rows_from_none work from (from + 0) (omega arith) in
       record {
-        start = omega arith;
-        within = h;
+        within = omega arith;
         done = [];
-        reads = ap (read_blocks k s used) (none w);
-        loads = sym (ap unloaded (none w));
+        reads = refl;
+        loads = refl;
         met = refl;
-        placed = subst (AllBlockPlaces s) (sym (none work)) tt;
-        marked = ap (reached_in s) (none work);
+        placed = subst (AllBlockPlaces s) (sym none) tt;
+        marked = ap (reached_in s) none;
         behind = refl;
         as_long = refl;
       }
 
-  module _ {work₀ work : List ℕ} {i u : ℕ} {found : Bool} (h : Reaching k s used earlier parents w from to work₀ work i u found) where
+  module _ {work₀ work : List ℕ} {i u : ℕ} {found : Bool} (h : Reaching work₀ work i u found) where
     -- the rows of the parents are as they were
     reaching_rows : (end : ℕ) → between to end work ≡ between to end work₀
     unfolding rows_from
@@ -132,100 +134,100 @@ module _ (k : ℕ) (s : List ℕ) (used : ℕ) (earlier : BlockReference) (paren
     pub reaching_parents : (bytes : List ℕ) (p : Option ℕ) → parents_of s bytes p to work ≡ parents_of s bytes p to work₀
     unfolding parents_of
     reaching_parents bytes None = refl
-    reaching_parents bytes (Some end) = ap (reached_in s) (reaching_rows end)
+    reaching_parents bytes (Some n) = ap (reached_in s) (reaching_rows (to + n))
 
     reaching_held : (p : Option ℕ) → Held s p to work₀ → Held s p to work
     reaching_held None r = tt
-    reaching_held (Some end) r = (omega (arith, r.0, h.as_long), subst (AllBlockPlaces s) (sym (reaching_rows end)) r.1)
+    reaching_held (Some n) r = (omega (arith, r.0, h.as_long), subst (AllBlockPlaces s) (sym (reaching_rows (to + n))) r.1)
 
     pub reaching_ready : {bytes : List ℕ} {p : Option ℕ} → Ready s bytes p to work₀ → Ready s bytes p to work
     reaching_ready {bytes} {p} r =
         record { held = reaching_held p r.held; parses = r.parses }
 
-    pub reaching_few : u + from ≤ i
-    unfolding rows_from
-    reaching_few =
-        omega (arith, h.loads, h.start, unloaded_most (rows_from w from i), length_rows_of (i - from) (drop (8 * from) w))
+    pub reaching_few : u ≤ i
+    reaching_few = omega (arith, h.loads, unloaded_most (take i rows), length-take i rows)
 
-    pub reached_all : to ≤ i → Reached k s used earlier parents w from to (record { number = 0; unloaded = u; found = found }) work
+    pub reached_all : length rows ≤ i → Reached (Ok (record { unloaded = u; found = found })) work
     unfolding searched_of
-    reached_all all_rows =
-        let last : i ≡ to = omega (arith, h.within) in
-        let rows : (l : List ℕ) → between from to l ≡ rows_from l from i = (λ l. between_rows from to l ∙ ap (rows_from l from) (sym last)) in
-        let read : read_blocks k s used (between from to w) ≡ all h.done = ap (read_blocks k s used) (rows w) ∙ h.reads in
-        let loads : u ≡ unloaded (between from to w) = h.loads ∙ ap unloaded (sym (rows w)) in (
-          ap₂ (λ (u : ℕ) (f : Bool). record { number = 0; unloaded = u; found = f }) loads h.met
-              ∙ sym (ap (searched_of (meets earlier parents) (between from to w)) read),
+    reached_all ended =
+        let last : from + i ≡ to = omega (arith, h.within) in
+        let every : take i rows ≡ rows = take_all i rows ended in
+        let works : between from to work ≡ rows_from work from (from + i) = between_rows from to work ∙ ap (rows_from work from) (sym last) in
+        let read : of_log read_blocks log rows ≡ all h.done = ap (of_log read_blocks log) (sym every) ∙ h.reads in
+        let loads : u ≡ unloaded rows = h.loads ∙ ap unloaded every in (
+          ap₂ (λ (u : ℕ) (f : Bool). Ok (record { unloaded = u; found = f })) loads h.met
+              ∙ sym (ap (searched_of (meets earlier parents) rows) read),
           subst (Marked s parents (between from to work)) (sym read)
-              (subst (AllBlockPlaces s) (sym (rows work)) h.placed, ap (reached_in s) (rows work) ∙ h.marked),
+              (subst (AllBlockPlaces s) (sym works) h.placed, ap (reached_in s) works ∙ h.marked),
         )
 
-    module _ (more : i < to) {b : ReadBlock} (is : b ≡ read_of (block_at k s used (get_or w (8 * i + 6) 0))) where
-      read_row : b ≡ read_of (block_at k s used (get_or (row_at w i) 6 0))
-      read_row = is ∙ ap (λ (p : ℕ). read_of (block_at k s used p)) (sym (word_row_at w i 6 (lit< tt)))
+    module _ (more : i < length rows) where
+      abbrev row : List ℕ
+      row = get_or rows i []
+
+      abbrev read : BlockRead
+      read = of_log block_at log (get_or row 6 0)
+
+      -- the rows so far with this one, and those behind it
+      next : take (i + 1) rows ≡ take i rows ++ (row ∷ [])
+      next = rw add-one (take-suc rows i [] more)
+
+      parts : rows ≡ take i rows ++ row ∷ drop (i + 1) rows
+      parts = sym (take-append-drop i rows) ∙ ap (λ (l : List (List ℕ)). take i rows ++ l) (rw add-one (drop-cons rows i [] more))
 
       -- a block that cannot be read
-      pub reached_refused : (b.number ≡ 0 → ⊥) → Reached k s used earlier parents w from to (record { number = b.number; unloaded = 0; found = false }) work
+      pub reached_refused : {r : Refusal} → Err r ≡ read_of read → Reached (Err r) work
       unfolding read_blocks block_then joined searched_of
-      reached_refused fails =
-          let x : BlockRead = block_at k s used (get_or (row_at w i) 6 0) in
-          let rest : List (List ℕ) = rows_from w (i + 1) to in
-          let refused : x ≡ reading.BlockRead.refused b.number =
-          told_refused x (block_at_numbered k s used (get_or (row_at w i) 6 0)) read_row fails in
-          let read : read_blocks k s used (between from to w) ≡ failed b.number =
-          ap (read_blocks k s used) (between_rows from to w ∙ rows_from_split w from i to h.start more)
-          ∙ reads_append k s used (rows_from w from i) (row_at w i ∷ rest)
-          ∙ ap (λ (r : Reads). joined r (read_blocks k s used (row_at w i ∷ rest))) h.reads
-          ∙ ap (λ (x : BlockRead). joined (all h.done) (block_then s (round_of (row_at w i)) x (read_blocks k s used rest))) refused in (
-            sym (ap (searched_of (meets earlier parents) (between from to w)) read),
-            subst (Marked s parents (between from to work)) (sym read) tt,
+      reached_refused is =
+          let told = told_refused read is in
+          let rest : List (List ℕ) = drop (i + 1) rows in
+          let fails : of_log read_blocks log rows ≡ failed told.0 =
+          ap (of_log read_blocks log) parts
+          ∙ reads_append log.exponent s log.used (take i rows) (row ∷ rest)
+          ∙ ap (λ (r : Reads). joined r (of_log read_blocks log (row ∷ rest))) h.reads
+          ∙ ap (λ (x : BlockRead). joined (all h.done) (block_then s (round_of row) x (of_log read_blocks log rest))) told.1 in (
+            ap Err told.2 ∙ sym (ap (searched_of (meets earlier parents) rows) fails),
+            subst (Marked s parents (between from to work)) (sym fails) tt,
           )
 
       -- one that can, and its working row
-      pub reaching_next : AllBytes s → b.number ≡ 0 → {t : Bool} → t ≡ is_reached parents b.reference
-          → {work' : List ℕ} → work' ≡ written work (8 * i) (work_row t b.at b.len) → 8 * to ≤ length work
-          → {v : ℕ} → v ≡ pick (eqb (get_or w (8 * i + 7) 0) 0) 1 0
+      pub reaching_next : AllBytes s → {b : ReadBlock} → Ok b ≡ read_of read → {t : Bool} → t ≡ is_reached parents b.reference
+          → {work' : List ℕ} → work' ≡ written work (8 * (from + i)) (work_row t b.bytes.at b.bytes.left) → 8 * to ≤ length work
+          → {v : ℕ} → v ≡ pick (eqb (get_or row 7 0) 0) 1 0
           → {f : Bool} → f ≡ pick found true (pick t (same b.reference earlier) false)
-          → Reaching k s used earlier parents w from to work₀ work' (i + 1) (u + v) f
+          → Reaching work₀ work' (i + 1) (u + v) f
       unfolding read_blocks block_then also joined unloaded
-      reaching_next bytes zero_number {t} asked {work'} put fits {v} loaded {f} meeting =
-          let p : ℕ = get_or (row_at w i) 6 0 in
-          let row : List ℕ = work_row t b.at b.len in
-          let this : Indexed = indexed s (round_of (row_at w i)) b.reference b.at b.len in
-          let got : block_at k s used p ≡ reading.BlockRead.got b.reference b.at b.len =
-          told_got (block_at k s used p) (block_at_numbered k s used p) read_row zero_number in
-          let decoded = read_decodes k s used p bytes got in
-          let rows : rows_from w from (i + 1) ≡ rows_from w from i ++ (row_at w i ∷ []) = rows_from_next w from i h.start in
-          let works : rows_from work' from (i + 1) ≡ rows_from work from i ++ (row ∷ []) =
-          ap (λ (l : List ℕ). rows_from l from (i + 1)) put ∙ rows_pushed work i row refl (omega arith) from h.start in
-          let here : BlockPlace s row =
+      reaching_next bytes {b} is {t} asked {work'} put fits {v} loaded {f} meeting =
+          let at : ℕ = b.bytes.at in
+          let n : ℕ = b.bytes.left in
+          let made : List ℕ = work_row t at n in
+          let this : Indexed = indexed s (round_of row) b.reference at n in
+          let got : read ≡ reading.BlockRead.got b.reference at n = told_got read is in
+          let decoded = read_decodes log.exponent s log.used (get_or row 6 0) bytes got in
+          let behind_this : from + (i + 1) ≡ (from + i) + 1 = omega arith in
+          let works : rows_from work' from (from + (i + 1)) ≡ rows_from work from (from + i) ++ (made ∷ []) =
+          ap₂ rows_from₂ put behind_this ∙ rows_pushed work (from + i) made refl (omega arith) from (omega arith) in
+          let here : BlockPlace s made =
           record { within = decoded.within; parses = (decoded.value, decoded.end, decoded.decodes) } in
           record {
-            start = omega (arith, h.start);
             within = omega arith;
             done = h.done ++ (this ∷ []);
             reads =
-                ap (read_blocks k s used) rows
-                ∙ reads_append k s used (rows_from w from i) (row_at w i ∷ [])
-                ∙ ap (λ (r : Reads). joined r (read_blocks k s used (row_at w i ∷ []))) h.reads
-                ∙ ap (λ (x : BlockRead). joined (all h.done) (block_then s (round_of (row_at w i)) x (all []))) got;
-            loads =
-                omega (
-                  arith,
-                  h.loads,
-                  ap unloaded rows,
-                  unloaded_append (rows_from w from i) (row_at w i ∷ []),
-                  one_unloaded (row_at w i) [],
-                  loaded ∙ ap (λ (x : ℕ). pick (eqb x 0) 1 0) (sym (word_row_at w i 7 (lit< tt))),
-                );
+                ap (of_log read_blocks log) next
+                ∙ reads_append log.exponent s log.used (take i rows) (row ∷ [])
+                ∙ ap (λ (r : Reads). joined r (of_log read_blocks log (row ∷ []))) h.reads
+                ∙ ap (λ (x : BlockRead). joined (all h.done) (block_then s (round_of row) x (all []))) got;
+            loads = omega (arith, h.loads, ap unloaded next, unloaded_append (take i rows) (row ∷ []), one_unloaded row [], loaded);
             met = meeting ∙ meets_next earlier parents h.done this h.met asked;
-            placed = subst (AllBlockPlaces s) (sym works) (placed_append s (rows_from work from i) (row ∷ []) h.placed (here, tt));
+            placed = subst (AllBlockPlaces s) (sym works) (placed_append s (rows_from work from (from + i)) (made ∷ []) h.placed (here, tt));
             marked =
                 ap (reached_in s) works
-                ∙ reached_in_append s (rows_from work from i) (row ∷ [])
-                ∙ ap₂ (λ (a b : List (List BlockReference)). a ++ b) h.marked
-                (row_marks s parents t (round_of (row_at w i)) b.reference b.at b.len asked)
+                ∙ reached_in_append s (rows_from work from (from + i)) (made ∷ [])
+                ∙ ap₂ (λ (a b : List (List BlockReference)). a ++ b) h.marked (row_marks s parents t (round_of row) b.reference at n asked)
                 ∙ sym (parents_append parents h.done (this ∷ []));
-            behind = ap (drop (8 * to)) put ∙ rows_behind work i row refl (omega arith) to more ∙ h.behind;
-            as_long = ap length put ∙ length_written work (8 * i) row (omega arith) ∙ h.as_long;
+            behind = ap (drop (8 * to)) put ∙ rows_behind work (from + i) made refl (omega arith) to (omega arith) ∙ h.behind;
+            as_long = ap length put ∙ length_written work (8 * (from + i)) made (omega arith) ∙ h.as_long;
           }
+        where
+          rows_from₂ : List ℕ → ℕ → List (List ℕ)
+          rows_from₂ w n = rows_from w from n

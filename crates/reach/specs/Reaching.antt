@@ -1,6 +1,8 @@
 -- For the proofs alone; no promise is stated with it. What the search comes to, a round at a time: which blocks of a round are reached,
 -- by the includes of those reached in the round above.
-use Rattle.std.specs.Prelude.{◌≡◌, Option, None, Some, Bool, false, List, [], ◌∷◌, ℕ, ◌+◌, ◌*◌, ◌≤◌, eqb, length, get_or}
+use Rattle.std.specs.Prelude.{◌≡◌, Option, None, Some, Bool, false, List, [], ◌∷◌, ℕ, ◌+◌, ◌*◌, ◌≤◌, eqb, length, get_or, Result, Ok, Err}
+use Rattle.refusal.specs.declared.Refusal.{Refusal}
+use Rattle.refusal.specs.Refusals.{refusal_of}
 use Rattle.laws.specs.Pick.{pick}
 use Rattle.laws.specs.Bytes.{bytes_at}
 use Rattle.types.specs.declared.BlockReference.{BlockReference}
@@ -27,15 +29,15 @@ reached_in s [] = []
 reached_in s (r ∷ rows) =
     pick (eqb (get_or r 0 0) 0) (reached_in s rows) (includes_of (bytes_at s (get_or r 1 0) (get_or r 2 0)) ∷ reached_in s rows)
 
--- the includes of each parent: of the later block itself, or of those reached among the working rows from `from` up to where they end
+-- the includes of each parent: of the later block itself, or of those reached among n working rows from `from` on
 unfoldable pub parents_of : List ℕ → List ℕ → Option ℕ → ℕ → List ℕ → List (List BlockReference)
 parents_of s bytes None from work = includes_of bytes ∷ []
-parents_of s bytes (Some end) from work = reached_in s (between from end work)
+parents_of s bytes (Some n) from work = reached_in s (between from (from + n) work)
 
 -- what a search among the parents asks for: their rows, from `from` on, are lent, and their bytes are blocks
 abbrev pub Held : List ℕ → Option ℕ → ℕ → List ℕ → Type 0
 Held s None from work = Unit {0}
-Held s (Some end) from work = (8 * end ≤ length work) × AllBlockPlaces s (between from end work)
+Held s (Some n) from work = (8 * (from + n) ≤ length work) × AllBlockPlaces s (between from (from + n) work)
 
 pub record Ready (s bytes : List ℕ) (p : Option ℕ) (from : ℕ) (work : List ℕ) : Type 0 where
   pub held : Held s p from work
@@ -63,6 +65,6 @@ Marked s parents rows (failed n) = Unit {0}
 Marked s parents rows (all blocks) = AllBlockPlaces s rows × (reached_in s rows ≡ next_parents parents blocks)
 
 -- the answer of a search of these rows, by a test of their blocks
-unfoldable pub searched_of : (List Indexed → Bool) → List (List ℕ) → Reads → Searched
-searched_of test rows (failed n) = record { number = n; unloaded = 0; found = false }
-searched_of test rows (all blocks) = record { number = 0; unloaded = unloaded rows; found = test blocks }
+unfoldable pub searched_of : (List Indexed → Bool) → List (List ℕ) → Reads → Result Searched Refusal
+searched_of test rows (failed n) = Err (refusal_of n)
+searched_of test rows (all blocks) = Ok (record { unloaded = unloaded rows; found = test blocks })

@@ -6,40 +6,37 @@
 // block's bytes stand in the image.
 #![tactic(auto)]
 
-ghost use Rattle.std.specs.Prelude.{◌≡◌, true, false, ◌*◌, ◌≤◌, length};
+ghost use Rattle.std.specs.Prelude.{◌≡◌, true, false, ◌+◌, ◌*◌, ◌≤◌, length};
 ghost use Rattle.laws.specs.Pick.{pick};
+ghost use Rattle.laws.specs.Bytes.{AllBytes};
+ghost use Rattle.wal_position.specs.Logs.{of_log};
 ghost use Rattle.filters.specs.Segments.{between};
 ghost use Rattle.includes.specs.References.{same};
 ghost use Rattle.reach.specs.Blocks.{read_blocks};
 ghost use Rattle.reach.specs.Reaching.{AllBlockPlaces, Ready, reached_in, parents_of, is_reached, meets, Marked, searched_of};
 
+use bincode::Cursor;
+use refusal::Refusal;
 use types::BlockReference;
-use wal_position::WalPosition;
+use wal_position::{Log, WalPosition};
 
-// The number of a refusal, or 0, how many of the blocks read were not loaded, and whether the earlier
-// block is among those that were reached.
+// How many of the blocks read were not loaded, and whether the earlier block is among those that were
+// reached.
 #[derive(Clone, Copy)]
 pub struct Searched {
-    pub number: u8,
     pub unloaded: u64,
     pub found: bool,
 }
 
-// Whether one of the blocks reached, of the working rows from `from` up to `to`, includes the reference.
-fn any_includes(
-    image: &[u8],
-    work: &[u64],
-    from: usize,
-    to: usize,
-    reference: BlockReference,
-) -> bool
-    requires { (8 * to ≤ length work.now) × AllBlockPlaces image.now (between from to work.now) }
-    ensures { result ≡ is_reached (reached_in image.now (between from to work.now)) reference }
+// Whether one of the blocks reached, of the parents' working rows, includes the reference.
+fn any_includes(image: &[u8], parents: &[[u64; 8]], reference: BlockReference) -> bool
+    requires { AllBlockPlaces image.now parents.now }
+    ensures { result ≡ is_reached (reached_in image.now parents.now) reference }
 {
-    for i in from..to {
-        if work[8 * i] != 0 {
-            let at = work[8 * i + 1] as usize;
-            let end = at + work[8 * i + 2] as usize;
+    for row in parents {
+        if row[0] != 0 {
+            let at = row[1] as usize;
+            let end = at + row[2] as usize;
             if includes::includes(&image[at..end], reference) {
                 return true;
             }
@@ -48,8 +45,9 @@ fn any_includes(
     false
 }
 
-// Whether a parent includes the reference: the later block, or one of those reached of the working rows
-// from `from` up to the end given.
+// Whether a parent includes the reference: the later block, or one of those reached of as many working rows
+// as are given, from `from` on. The clause `bytes` says what the image's type does, for a caller that has
+// the image in a log.
 fn is_reached(
     image: &[u8],
     work: &[u64],
@@ -59,64 +57,53 @@ fn is_reached(
     reference: BlockReference,
 ) -> bool
     requires { Ready image.now later.now parents from work.now }
-    ensures { result ≡ is_reached (parents_of image.now later.now parents from work.now) reference }
+    ensures value { result ≡ is_reached (parents_of image.now later.now parents from work.now) reference }
+    ensures bytes { AllBytes image.now }
 {
     match parents {
         None => includes::includes(later, reference),
-        Some(end) => any_includes(image, work, from, end, reference),
+        Some(n) => any_includes(image, &rows::rows_of(work, from + n)[from..], reference),
     }
 }
 
-// Reads the blocks of the index rows from `from` up to `to`, which are those of a round, and stores in
-// their working rows which of them a parent includes. The parents' rows begin at `to`, and where no end of
-// them is given the later block is the parent.
+// Reads the blocks of a round's index rows, and stores which of them a parent includes in their working rows,
+// from row `from` on. Behind these are as many rows of parents as are given; where no number is given the
+// later block is the parent.
 pub fn reach_round(
-    k: u64,
-    image: &[u8],
-    used: u64,
-    index: &[u64],
+    log: &Log<'_>,
+    rows: &[[u64; 8]],
     from: usize,
-    to: usize,
     parents: Option<usize>,
     later: &[u8],
     earlier: BlockReference,
     work: &mut [u64],
-) -> Searched
-    requires { (from ≤ to) × (8 * to ≤ length index.now) × (8 * to ≤ length work.old)
-        × Ready image.now later.now parents to work.old }
+) -> Result<Searched, Refusal>
+    requires { (8 * (from + length rows.now) ≤ length work.old)
+        × Ready log.now.image.now later.now parents (from + length rows.now) work.old }
     ensures value { result ≡ searched_of (meets earlier
-        (parents_of image.now later.now parents to work.old)) (between from to index.now)
-        (read_blocks k image.now used (between from to index.now)) }
-    ensures marked { Marked image.now
-        (parents_of image.now later.now parents to work.old) (between from to work.new)
-        (read_blocks k image.now used (between from to index.now)) }
+        (parents_of log.now.image.now later.now parents (from + length rows.now) work.old)) rows.now
+        (of_log read_blocks log.now rows.now) }
+    ensures marked { Marked log.now.image.now
+        (parents_of log.now.image.now later.now parents (from + length rows.now) work.old)
+        (between from (from + length rows.now) work.new) (of_log read_blocks log.now rows.now) }
     ensures work_len_unchanged { length work.new ≡ length work.old }
 {
+    let to = from + rows.len();
     let mut unloaded = 0;
     let mut found = false;
-    for i in from..to {
-        let b = block_reader::read_block(k, image, used, WalPosition(index[8 * i + 6]));
-        if b.number != 0 {
-            return Searched {
-                number: b.number,
-                unloaded: 0,
-                found: false,
-            };
-        }
-        let reached = is_reached(image, work, to, parents, later, b.reference);
+    for (i, row) in rows.iter().enumerate() {
+        let block = block_reader::read_block(log, WalPosition(row[6]))?;
+        let reached = is_reached(log.image, work, to, parents, later, block.reference);
+        let Cursor { at, left } = block.bytes;
         tables::put_row(
             work,
-            i,
-            [reached as u64, b.at as u64, b.len as u64, 0, 0, 0, 0, 0],
+            from + i,
+            [u64::from(reached), at as u64, left as u64, 0, 0, 0, 0, 0],
         );
-        found = met(found, reached, b.reference, earlier);
-        unloaded += filters::not_loaded(index, i);
+        found = met(found, reached, block.reference, earlier);
+        unloaded += filters::not_loaded(row);
     }
-    Searched {
-        number: 0,
-        unloaded,
-        found,
-    }
+    Ok(Searched { unloaded, found })
 }
 
 // Whether the earlier block was met before, or is this one.

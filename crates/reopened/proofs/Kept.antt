@@ -1,22 +1,24 @@
 -- The theorems: the store that a recovery leaves, and any store that calls made, pass the checks of the next call. Assumes nothing.
-use mathlib.Core.Path.{◌≡◌, refl, ap, ◌∙◌}
+use mathlib.Core.Path.{◌≡◌, ap, ◌∙◌}
 use mathlib.Core.List.{List, []}
 use Prim.Native.Nat.{ℕ, ◌<◌}
+use Rattle.std.proofs.Common.{Result, Ok}
+use Rattle.refusal.specs.Refusals.{as_refused}
 use Rattle.wal_position.proofs.Checks.{unless_passed}
 use Rattle.wal.specs.declared.Walked.{Walked}
+use Rattle.wal.specs.declared.RefusedAt.{RefusedAt}
 use Rattle.wal.specs.Walk.{Stop, stopped}
-use Rattle.wal.specs.Answers.{walked_of, walked_number}
+use Rattle.wal.specs.Answers.{walked_of}
 use Rattle.replay.specs.Items.{ReplayEntry}
 use Rattle.replay.specs.Rules.{Block, index}
 use Rattle.replay.specs.Recovery.{recovered}
 use Rattle.committee.specs.Committee.{committee_check}
 use Rattle.recovered.specs.declared.Recovered.{Recovered}
-use Rattle.recovered.specs.declared.Resumed.TheVariants.{Writer}
 use Rattle.recovered.specs.Answers.{writer_behind, resumed_of}
 use Rattle.replay_log.specs.Answers.{recovered_of}
 use Rattle.store.specs.declared.BlockStore.{BlockStore}
 use Rattle.store.specs.Store as store
-use Rattle.store.specs.Store.{open_number, opened_of}
+use Rattle.store.specs.Store.{opened_by, opened_of}
 use Rattle.cut.specs.Cut.{LogImage}
 use Rattle.reopened.specs.Passing.{OpenedPasses, Kept}
 use Rattle.reopened.proofs.Classifying.{reads_of}
@@ -36,14 +38,13 @@ module _ (used own e : ℕ) (r : Recovered) (word : Stop) (l : List ReplayEntry)
   unfolding recovered_of
   walked = ap (λ (x : Recovered). x.walked) answers
 
-  opens_store : (size : ℕ) → committee_check size own ≡ 0 → store.opened size own r ≡ record { number = 0; store = opened_of size own r.replay }
-  unfolding store.opened open_number walked_of walked_number
+  opens_store : (size : ℕ) → committee_check size own ≡ 0 → store.opened size own r ≡ Ok (opened_of size own r.replay)
+  unfolding opened_by walked_of
   opens_store size committee =
-      let number : open_number r.walked size own ≡ 0 =
-      ap (λ (w : Walked). open_number w size own) walked ∙ unless_passed (λ n. n) (committee_check size own) 0 refl ∙ committee in
-      λ j. record { number = number j; store = opened_of size own r.replay }
+      ap (λ (w : Result Walked RefusedAt). opened_by size own w r.replay) walked
+      ∙ unless_passed as_refused (Ok (opened_of size own r.replay)) (committee_check size own) committee
 
-  goes_on : (k : ℕ) → resumed_of k r ≡ Writer (record { exponent = k; used = e })
+  goes_on : (k : ℕ) → resumed_of k r ≡ Ok (record { exponent = k; used = e })
   unfolding walked_of writer_behind
   goes_on k = ap (writer_behind k) walked
 

@@ -6,6 +6,8 @@ use mathlib.Core.Option.{some}
 use Prim.Native.Nat.{ℕ, ◌^◌, ◌≤◌, ◌<◌}
 use native.Mathlib.Omega.{arith}
 use lib.ListN.{length, take}
+use Rattle.std.proofs.Common.{Result, Ok}
+use Rattle.refusal.specs.declared.Refusal.{Refusal}
 use Rattle.laws.specs.Bytes.{AllBytes}
 use Rattle.wal_writer.specs.declared.WalWriter.{WalWriter}
 use Rattle.wal_position.specs.Checks.{log_check, unless}
@@ -37,9 +39,9 @@ use Rattle.cleanup.specs.Cleanup.{clean_index}
 use Rattle.store.proofs.Checked.{call_checked}
 use Rattle.indexing.specs.declared.Inserted.{Inserted}
 use Rattle.indexing.specs.Indexing.{Insertion, insert, inserted_of, image_with, index_with, loaded_row, store_with}
-use Rattle.insert.specs.Insert.{insertion, Inserts}
+use Rattle.insert.specs.Insert.{insertion, writer_after, store_after, Inserts}
 use Rattle.insert.proofs.Kept.{Passed, accepted_passed}
-use Rattle.insert.proofs.Numbers.{Put, zero_accepted}
+use Rattle.insert.proofs.Numbers.{Put, ok_accepted}
 use Rattle.query.specs.Query.{counted}
 use Rattle.cut.specs.PlainLog.{Append}
 use Rattle.cut.specs.Cut.{LogImage, used_after, answer_of, after_append}
@@ -196,25 +198,27 @@ module _ (k : ℕ) (size own : ℕ) where
       from (append.refused n) is = rw is h
 
   carries_insert : {log : LogImage} {s : BlockStore} {words : List ℕ} → Carries log s words
-      → (tag : ℕ) (payload : List ℕ) → (tag ≡ 1) ⊎ (tag ≡ 3) → AllBytes payload → (r : Inserted) (image' words' : List ℕ)
-      → Inserts (record { exponent = k; used = log.used }) s tag payload log.image words r image' words' → r.number ≡ 0
-      → Carries (record { used = r.writer.used; image = image' }) r.store words'
-  unfolding inserted_of image_with index_with store_with indexed end_of
-  carries_insert {log} {s} {words} h tag payload which all r image' words' ins number =
+      → (tag : ℕ) (payload : List ℕ) → (tag ≡ 1) ⊎ (tag ≡ 3) → AllBytes payload → (i : Inserted) (image' words' : List ℕ)
+      → Inserts (record { exponent = k; used = log.used }) s tag payload log.image words (Ok i) image' words'
+      → Carries (record { used = i.writer.used; image = image' }) i.store words'
+  unfolding inserted_of writer_after store_after image_with index_with store_with indexed end_of
+  carries_insert {log} {s} {words} h tag payload which all i image' words' ins =
       let w : WalWriter = record { exponent = k; used = log.used } in
       let x : Insertion = insertion w (length log.image) s words tag payload in
-      let put : Put x = zero_accepted w (length log.image) s words tag payload (length payload) (sym (ap (λ (r : Inserted). r.number) ins.answer) ∙ number) in
+      let put : Put x = ok_accepted w s (length payload) x ins.answer in
       let passed : Passed w (length log.image) s words tag payload put.start put.reference put.rows =
       accepted_passed w (length log.image) s words tag payload put.is in
       let e : Entry = record { start = put.start; tag = tag; payload = payload } in
       let l : List ReplayEntry = reads_of h.entries in
       let held = insert_holds put.start payload all tag which passed.holds in
       let y : ReplayEntry = record { entry = e; item = held.item } in
-      let checked = call_checked k log.used (length log.image) s words refl passed.call in
+      let checked = call_checked k log.used (length log.image) s words passed.call in
       let read : reads_of (h.entries ++ (e ∷ [])) ≡ l ++ (y ∷ []) =
       reads_one h.entries e ∙ ap (λ (m : List ReplayEntry). l ++ m) (read_classified e held.is) in
-      let answer : r ≡ inserted_of w s (length payload) (insert put.start put.reference put.rows) =
+      let answer : Ok i ≡ inserted_of w s (length payload) (insert put.start put.reference put.rows) =
       ins.answer ∙ ap (inserted_of w s (length payload)) put.is in
+      let used : i.writer.used ≡ end_of e = ap (λ (r : Result Inserted Refusal). (writer_after w r).used) answer in
+      let after : i.store ≡ store_with s put.reference put.rows = ap (store_after s) answer in
       let rows : words' ≡ upserted words s.rows (loaded_row put.reference put.start) =
       ins.rows ∙ ap (λ (x : Insertion). index_with x s words) put.is in
       let bytes : image' ≡ image_after (accepted put.start) log.used log.image tag payload =
@@ -227,11 +231,11 @@ module _ (k : ℕ) (size own : ℕ) where
       ∙ passed.block in
       let agreed = agrees_block size own l s words h.agrees (all_digested h) checked e held small passed.counted in
       let stepped : ◌≡◌ {A = LogImage} (record { used = end_of e; image = image_after (accepted put.start) log.used log.image tag payload })
-      (record { used = r.writer.used; image = image' }) = sym (λ i. record { used = (answer i).writer.used; image = bytes i }) in
-      subst (λ (st : LogImage). Carries st r.store words') stepped
+      (record { used = i.writer.used; image = image' }) = sym (λ j. record { used = used j; image = bytes j }) in
+      subst (λ (st : LogImage). Carries st i.store words') stepped
       (grows h e (tag_small tag which) passed.placed
-      (subst (λ (m : List ReplayEntry). AgreesWith size own m r.store words') (sym read)
-      (subst (λ (t : BlockStore). AgreesWith size own (l ++ (y ∷ [])) t words') (sym (ap (λ (r : Inserted). r.store) answer))
+      (subst (λ (m : List ReplayEntry). AgreesWith size own m i.store words') (sym read)
+      (subst (λ (t : BlockStore). AgreesWith size own (l ++ (y ∷ [])) t words') (sym after)
       (subst (λ (t : List ℕ). AgreesWith size own (l ++ (y ∷ [])) (store_with s put.reference put.rows) t) (sym rows) agreed)))
       (held_holds OfBytes held held.digested) (fine_inserted size own l e held checks))
 
@@ -249,7 +253,7 @@ module _ (k : ℕ) (size own : ℕ) where
               authority = h.agrees.authority;
               rows =
                   cleaned_rows (call_check k log.used (length log.image) s words) t s.rows words
-                  (λ passed. (call_checked k log.used (length log.image) s words refl passed).fits)
+                  (λ passed. (call_checked k log.used (length log.image) s words passed).fits)
                   ∙ h.agrees.rows;
               summary = h.agrees.summary;
             };
@@ -298,8 +302,8 @@ module _ (k : ℕ) (size own : ℕ) where
   carries low high (opens image all used before after r word e l is answers) =
       carries_open image all used before after r word e l is answers
   carries low high (appends m a small one three) = carries_append (carries low high m) a small one three
-  carries low high (inserts m tag payload which all r image' words' ins number) =
-      carries_insert (carries low high m) tag payload which all r image' words' ins number
+  carries low high (inserts m tag payload which all i image' words' ins) =
+      carries_insert (carries low high m) tag payload which all i image' words' ins
   carries low high (cleans m t) = carries_clean (carries low high m) t
   carries low high (looks m n) = carries_look (carries low high m) n
   carries low high (lends m image' words' room same rows) = carries_lend (carries low high m) image' words' room same rows

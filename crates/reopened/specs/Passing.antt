@@ -1,7 +1,7 @@
 -- The calls on a store that a node can come to (`Reachable`) pass the checks with which each of them begins: 1, 2 and 18. Document 01,
 -- 18: "in a lent store, more index rows counted than lent, rows not strictly ascending by round, authority, digest, or one with an
 -- authority not below the size". And what its index names is in the log.
-use Rattle.std.specs.Prelude.{◌≡◌, List, [], ◌∷◌, ℕ, ◌≤◌, length, get_or}
+use Rattle.std.specs.Prelude.{◌≡◌, List, [], ◌∷◌, ℕ, ◌≤◌, length, get_or, Ok}
 use Rattle.laws.specs.Bytes.{AllBytes}
 use Rattle.types.specs.declared.BlockReference.{BlockReference}
 use Rattle.rows.specs.Rows.{key}
@@ -11,7 +11,6 @@ use Rattle.committee.specs.Committee.{committee_check}
 use Rattle.replay.specs.Recovery.{recover, recovered}
 use Rattle.wal.specs.Walk.{Stop}
 use Rattle.recovered.specs.declared.Recovered.{Recovered}
-use Rattle.recovered.specs.declared.Resumed.TheVariants.{Writer}
 use Rattle.recovered.specs.Answers.{resumed_of}
 use Rattle.replay_log.specs.Answers.{Tables, rows_lent, Answers}
 use Rattle.store.specs.declared.BlockStore.{BlockStore}
@@ -25,8 +24,8 @@ use Rattle.reopened.specs.Reopened.{Reachable}
 pub record Passes (k used size own : ℕ) (image index : List ℕ) (r : Recovered) (e : ℕ) : Type 0 where
   pub resumes : e ≤ used
   -- `BlockStore::open` opens it, and `Recovered::writer` gives the writer at E
-  pub opens : opened size own r ≡ record { number = 0; store = opened_of size own r.replay }
-  pub writes : resumed_of k r ≡ Writer (record { exponent = k; used = e })
+  pub opens : opened size own r ≡ Ok (opened_of size own r.replay)
+  pub writes : resumed_of k r ≡ Ok (record { exponent = k; used = e })
   pub as_lent : call_check k used (length image) (opened_of size own r.replay) index ≡ 0
   pub from_end : call_check k e (length image) (opened_of size own r.replay) index ≡ 0
 

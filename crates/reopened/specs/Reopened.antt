@@ -1,7 +1,7 @@
 -- A store and its log say the same: whatever log a node starts from, and whatever calls of the store come then, the index that recovery of
 -- the log gives, where it is not refused, is the store's, loaded flags and loads aside. Document 01: "Insert (a block's bytes .. logged and
 -- indexed)"; "Index: reference to latest position, all unloaded".
-use Rattle.std.specs.Prelude.{◌≡◌, ◌⊎◌, ℕ, ◌^◌, ◌≤◌, ◌<◌, length, take, set}
+use Rattle.std.specs.Prelude.{◌≡◌, ◌⊎◌, ℕ, ◌^◌, ◌≤◌, ◌<◌, length, take, set, Ok}
 use mathlib.Core.List.{List, [], ◌∷◌, ◌++◌, map, Memᴰ}
 use Rattle.laws.specs.Bytes.{AllBytes}
 use Rattle.laws.specs.Parse.{bad}
@@ -42,9 +42,9 @@ pub data Reachable (k size own : ℕ) : LogImage → BlockStore → List ℕ →
   -- an accepted insert
   inserts : {log : LogImage} {s : BlockStore} {index : List ℕ} → Reachable k size own log s index
       → (tag : ℕ) (payload : List ℕ) → (tag ≡ 1) ⊎ (tag ≡ 3) → AllBytes payload
-      → (r : Inserted) (image' index' : List ℕ)
-      → Inserts (record { exponent = k; used = log.used }) s tag payload log.image index r image' index' → r.number ≡ 0
-      → Reachable k size own (record { used = r.writer.used; image = image' }) r.store index'
+      → (i : Inserted) (image' index' : List ℕ)
+      → Inserts (record { exponent = k; used = log.used }) s tag payload log.image index (Ok i) image' index'
+      → Reachable k size own (record { used = i.writer.used; image = image' }) i.store index'
   -- cleanup changes flags, a lookup counts loads
   cleans : {log : LogImage} {s : BlockStore} {index : List ℕ} → Reachable k size own log s index
       → (t : ℕ) → Reachable k size own log s (cleanup_index k log.image log.used s index t)

@@ -1,128 +1,113 @@
--- The loop that tests each row's authority beside its key, at row i. Assumes nothing.
-use mathlib.Core.Path.{◌≡◌, refl, sym, ap, ◌∙◌}
+-- The pass over the rows of a store: each key is below the next, and each authority below the committee's size. Assumes nothing.
+use mathlib.Core.Path.{◌≡◌, refl, sym, ap, ◌∙◌, subst}
 use mathlib.Core.Bool.{Bool, true, false}
-use mathlib.Core.Logic.{⊎_elim}
-use mathlib.Core.List.{List}
-use Prim.Native.Nat.{ℕ, ◌+◌, ◌*◌, ◌≤◌, ◌<◌}
+use mathlib.Core.List.{List, [], ◌∷◌}
+use Prim.Native.Nat.{ℕ, zero, suc, ◌+◌, ◌<◌}
 use native.Mathlib.Omega.{arith}
-use lib.Dec.{leb, ltb, eqb}
-use lib.ListN.{get_or}
-use borrow.Author.Tests.{le-leb, lt-leb, lt-ltb, le-ltb, eq-eqb}
+use lib.Dec.{ltb}
+use lib.ListN.{length, get_or}
 use Rattle.laws.specs.Pick.{pick}
-use Rattle.laws.proofs.Tests.{leb_cases}
-use Rattle.std.specs.Ordering.{is_ge}
+use borrow.Author.Tests.{lt-ltb}
+use Rattle.std.specs.List.{IsAllAdjacentAnswer}
+use Rattle.std.specs.Ordering.{is_lt}
 use Rattle.std.specs.declared.cmp.Ordering.{Ordering}
 use Rattle.std.specs.declared.cmp.Ordering.TheVariants.{Less, Equal, Greater}
-use Rattle.rows.specs.Rows.{rows_of, row_at, key, compared, ascendingb}
-use Rattle.rows.proofs.Testing.{Tested, tested_start, tested_next, tested_equal, tested_above, tested_done}
-use Rattle.rows.proofs.Rows.{rows_from, rows_from_zero, rows_from_cons, rows_from_none}
+use Rattle.rows.specs.Rows.{key, compared, choose, leads, ascendingb}
 use Rattle.store.specs.Store.{authorities_below}
-use Rattle.store.proofs.Words.{word_row_at}
 
-authorities_start : (size : ℕ) (w : List ℕ) (n : ℕ) → authorities_below size (rows_of n w) ≡ authorities_below size (rows_from w 0 n)
-authorities_start size w n = ap (authorities_below size) (sym (rows_from_zero w n))
+pick_itself : (t : Bool) → pick t true false ≡ t
+unfolding pick
+pick_itself true = refl
+pick_itself false = refl
 
-module _ (size : ℕ) (w : List ℕ) (i n : ℕ) where
-  authorities_next : i < n → get_or w (8 * i + 1) 0 < size
-      → authorities_below size (rows_from w i n) ≡ authorities_below size (rows_from w (i + 1) n)
+pick_never : (t : Bool) → pick t false false ≡ false
+unfolding pick
+pick_never true = refl
+pick_never false = refl
+
+-- both tests, or the one behind the other
+both_true : (t u : Bool) → true ≡ pick t u false → (t ≡ true) × (u ≡ true)
+unfolding pick
+both_true true u e = (refl, sym e)
+both_true false u e = absurd (cc)
+
+either_false : (t u v w : Bool) → false ≡ pick t u false → false ≡ pick (pick v t false) (pick w u false) false
+unfolding pick
+either_false true u true true e = e
+either_false true u true false e = refl
+either_false true u false w e = refl
+either_false false u true w e = refl
+either_false false u false w e = refl
+
+lower : (o : Ordering) → is_lt o ≡ true → choose o true false false ≡ true
+unfolding choose
+lower Less e = refl
+lower Equal e = absurd (cc)
+lower Greater e = absurd (cc)
+
+not_lower : (o : Ordering) → is_lt o ≡ false → choose o true false false ≡ false
+unfolding choose
+not_lower Less e = absurd (cc)
+not_lower Equal e = refl
+not_lower Greater e = refl
+
+one_later : (r : List ℕ) (rows : List (List ℕ)) (k : ℕ) (d : List ℕ) → get_or (r ∷ rows) (suc k + 1) d ≡ get_or rows (k + 1) d
+one_later r rows k d = let next : suc k + 1 ≡ suc (k + 1) = omega arith in ap (λ (m : ℕ). get_or (r ∷ rows) m d) next
+
+module _ (size : ℕ) where
+  -- what the pass asks of a row and the next
+  abbrev pub in_order : List ℕ → List ℕ → Bool
+  in_order r next = pick (ltb (get_or next 1 0) size) (is_lt (compared (key r) (key next))) false
+
+  -- whether rows pass both tests
+  abbrev pub passes : List (List ℕ) → Bool
+  passes rows = pick (ascendingb rows) (authorities_below size rows) false
+
+  pub all_in_order : (r : List ℕ) (rows : List (List ℕ))
+      → ((k : ℕ) (d : List ℕ) → k + 1 < length (r ∷ rows) → true ≡ in_order (get_or (r ∷ rows) k d) (get_or (r ∷ rows) (k + 1) d))
+      → ltb (get_or r 1 0) size ≡ passes (r ∷ rows)
+  unfolding ascendingb leads authorities_below pick
+  all_in_order r [] h = sym (pick_itself (ltb (get_or r 1 0) size))
+  all_in_order r (s ∷ rest) h =
+      let first = both_true (ltb (get_or s 1 0) size) (is_lt (compared (key r) (key s))) (h 0 [] (omega arith)) in
+      let behind = both_true (ascendingb (s ∷ rest)) (authorities_below size (s ∷ rest))
+      (sym first.0 ∙ all_in_order s rest (λ k d l. h (suc k) d (omega arith) ∙ ap (in_order (get_or (s ∷ rest) k d)) (one_later r (s ∷ rest) k d))) in
+      sym (rw (lower (compared (key r) (key s)) first.1, behind.0, behind.1) (pick_itself (ltb (get_or r 1 0) size)))
+
+  first_fails : (t u v w : Bool) (o : Ordering) → false ≡ pick t (is_lt o) false → false ≡ pick (pick (choose o true false false) v false) (pick w (pick t u false) false) false
+  unfolding pick choose
+  first_fails true u v w Less e = absurd (cc)
+  first_fails true u v w Equal e = refl
+  first_fails true u v w Greater e = refl
+  first_fails false u true true Less e = refl
+  first_fails false u true false Less e = refl
+  first_fails false u false w Less e = refl
+  first_fails false u v w Equal e = refl
+  first_fails false u v w Greater e = refl
+
+  pub one_not_in_order : (rows : List (List ℕ)) (k : ℕ) → k + 1 < length rows
+      → ((d : List ℕ) → false ≡ in_order (get_or rows k d) (get_or rows (k + 1) d)) → false ≡ passes rows
+  unfolding ascendingb leads authorities_below
+  one_not_in_order [] k l h = absurd (omega arith)
+  one_not_in_order (r ∷ []) k l h = absurd (omega arith)
+  one_not_in_order (r ∷ s ∷ rest) zero l h =
+      first_fails (ltb (get_or s 1 0) size) (authorities_below size rest) (ascendingb (s ∷ rest)) (ltb (get_or r 1 0) size) (compared (key r) (key s)) (h [])
+  one_not_in_order (r ∷ s ∷ rest) (suc k) l h =
+      either_false (ascendingb (s ∷ rest)) (authorities_below size (s ∷ rest)) (choose (compared (key r) (key s)) true false false) (ltb (get_or r 1 0) size)
+      (one_not_in_order (s ∷ rest) k (omega arith) (λ d. h d ∙ ap (in_order (get_or (s ∷ rest) k d)) (one_later r (s ∷ rest) k d)))
+
+  pub first_not_below : (r : List ℕ) (rows : List (List ℕ)) → ltb (get_or r 1 0) size ≡ false → false ≡ passes (r ∷ rows)
   unfolding authorities_below pick
-  authorities_next h l = rw (rows_from_cons w i n h, word_row_at w i 1 (omega arith), lt-ltb (get_or w (8 * i + 1) 0) size l)
+  first_not_below r rows e = sym (rw e (pick_never (ascendingb (r ∷ rows))))
 
-  authorities_stop : i < n → size ≤ get_or w (8 * i + 1) 0 → authorities_below size (rows_from w i n) ≡ false
-  unfolding authorities_below pick
-  authorities_stop h l = rw (rows_from_cons w i n h, word_row_at w i 1 (omega arith), le-ltb (get_or w (8 * i + 1) 0) size l)
+  pub no_rows_pass : (rows : List (List ℕ)) → length rows ≡ 0 → true ≡ passes rows
+  unfolding ascendingb authorities_below pick
+  no_rows_pass [] e = refl
+  no_rows_pass (r ∷ rows) e = absurd (omega arith)
 
-  authorities_done : n ≤ i → authorities_below size (rows_from w i n) ≡ true
-  unfolding authorities_below
-  authorities_done h = rw (rows_from_none w i n h)
-
-  authorities_past : n ≤ i + 1 → authorities_below size (rows_from w (i + 1) n) ≡ true
-  unfolding authorities_below
-  authorities_past h = rw (rows_from_none w (i + 1) n h)
-
-  -- of the last row, if there is one
-  authorities_last : n ≤ i + 1 → authorities_below size (rows_from w i n) ≡ pick (leb n i) true (ltb (get_or w (8 * i + 1) 0) size)
-  unfolding pick
-  authorities_last h =
-      ⊎_elim
-      (λ y. rw y.0 (authorities_done y.1))
-      (λ f.
-      rw f.0
-      (⊎_elim
-      (λ s. authorities_stop f.1 s.1 ∙ sym (le-ltb (get_or w (8 * i + 1) 0) size s.1))
-      (λ l. authorities_next f.1 l.1 ∙ authorities_past h ∙ sym (lt-ltb (get_or w (8 * i + 1) 0) size l.1))
-      (leb_cases size (get_or w (8 * i + 1) 0))))
-      (leb_cases n i)
-
--- ---- Both tests in one pass: the keys of the rows and the authorities
-
--- a row whose authority is not below the size decides, whatever the order
-authority_decides : (t : Bool) {b : Bool} → b ≡ false → false ≡ pick t b false
-unfolding pick
-authority_decides true e = sym e
-authority_decides false e = refl
-
-order_decides : (t b : Bool) → false ≡ t → false ≡ pick t b false
-unfolding pick
-order_decides t b e = rw (← e)
-
-authorities_decide : (t b : Bool) → true ≡ t → b ≡ pick t b false
-unfolding pick
-authorities_decide t b e = rw (← e)
-
--- whether the n rows pass both tests
-abbrev pub Passes : ℕ → List ℕ → ℕ → Bool → Type 0
-Passes size w n r = r ≡ pick (ascendingb (rows_of n w)) (authorities_below size (rows_of n w)) false
-
--- those before row i pass: the rows from i on decide
-pub record Passed (size : ℕ) (w : List ℕ) (n i : ℕ) : Type 0 where
-  pub keys : Tested w n i
-  pub authorities : authorities_below size (rows_of n w) ≡ authorities_below size (rows_from w i n)
-
-pub passed_start : (size : ℕ) (w : List ℕ) (n : ℕ) → Passed size w n 0
-passed_start size w n = record { keys = tested_start w n; authorities = authorities_start size w n }
-
-module _ {size : ℕ} {w : List ℕ} {n i : ℕ} (h : Passed size w n i) where
-  pub passed_stop : i < n → size ≤ get_or w (8 * i + 1) 0 → Passes size w n false
-  passed_stop more l = authority_decides (ascendingb (rows_of n w)) (h.authorities ∙ authorities_stop size w i n more l)
-
-  -- o is where row i stands to k, the key of row j
-  module _ {j : ℕ} (next : j ≡ i + 1) (more : j < n) {o : Ordering} {k : List ℕ} (is : k ≡ key (row_at w j)) (r : o ≡ compared (key (row_at w i)) k) where
-    its : k ≡ key (row_at w (i + 1))
-    its = is ∙ ap (λ (m : ℕ). key (row_at w m)) next
-
-    pub passed_next : get_or w (8 * i + 1) 0 < size → is_ge o ≡ false → {m : ℕ} → m ≡ i + 1 → Passed size w n m
-    passed_next l e {m} at =
-        rw at
-        (record {
-          keys = tested_next h.keys (omega arith) its r (less o e);
-          authorities = h.authorities ∙ authorities_next size w i n (omega arith) l;
-        })
-      where
-        less : (o : Ordering) → is_ge o ≡ false → o ≡ Less
-        less Less e = refl
-        less Equal e = absurd (cc)
-        less Greater e = absurd (cc)
-
-    pub passed_no_more : is_ge o ≡ true → Passes size w n false
-    passed_no_more e = order_decides (ascendingb (rows_of n w)) (authorities_below size (rows_of n w)) (by o refl)
-      where
-        by : (p : Ordering) → o ≡ p → false ≡ ascendingb (rows_of n w)
-        by Less q = absurd (let z : is_ge Less ≡ true = ap is_ge (sym q) ∙ e in cc)
-        by Equal q = tested_equal h.keys (omega arith) its r q
-        by Greater q = tested_above h.keys (omega arith) its r q
-
-  -- row i is the last, if there is one
-  passed_last : n ≤ i + 1 → Passes size w n (pick (leb n i) true (ltb (get_or w (8 * i + 1) 0) size))
-  passed_last all =
-      sym (h.authorities ∙ authorities_last size w i n all)
-      ∙ authorities_decide (ascendingb (rows_of n w)) (authorities_below size (rows_of n w)) (tested_done h.keys all)
-
-  pub passed_without_rows : n ≡ 0 → Passes size w n (eqb n 0)
-  unfolding pick
-  passed_without_rows z = eq-eqb n 0 z ∙ sym (ap (λ (t : Bool). pick t true (ltb (get_or w (8 * i + 1) 0) size)) (le-leb n i (omega arith))) ∙ passed_last (omega arith)
-
-  pub passed_all : {m : ℕ} → m ≡ i → n ≡ i + 1 → Passes size w n (ltb (get_or w (8 * m + 1) 0) size)
-  unfolding pick
-  passed_all {m} at last =
-      rw at (sym (ap (λ (t : Bool). pick t true (ltb (get_or w (8 * i + 1) 0) size)) (lt-leb n i (omega arith))) ∙ passed_last (omega arith))
+  -- the pass, by what it answered
+  pub pass_answers : (r : List ℕ) (rest rows : List (List ℕ)) → rows ≡ r ∷ rest → get_or r 1 0 < size
+      → (b : Bool) → IsAllAdjacentAnswer (λ x y b. b ≡ in_order x y) rows b → b ≡ passes rows
+  pass_answers r rest rows is l true h =
+      sym (lt-ltb (get_or r 1 0) size l) ∙ all_in_order r rest (λ k d m. subst (λ (xs : List (List ℕ)). true ≡ in_order (get_or xs k d) (get_or xs (k + 1) d)) is (h k d (omega (arith, ap length is)))) ∙ ap passes (sym is)
+  pass_answers r rest rows is l false h = one_not_in_order rows h.0 h.1 h.2

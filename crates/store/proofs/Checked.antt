@@ -9,11 +9,18 @@ use lib.ListN.{length}
 use borrow.Author.Tests.{leb-true, ltb-true, le-leb, lt-leb}
 use Rattle.laws.specs.Pick.{pick}
 use Rattle.wal_position.specs.Checks.{log_check, unless}
-use Rattle.wal_position.proofs.Checks.{unless_passed, unless_refused}
+use Rattle.wal_position.proofs.Checks.{unless_passed, unless_refused, first_refused, second_decides}
 use Rattle.rows.specs.Rows.{rows_of, ascendingb, Ascending}
 use Rattle.rows.proofs.Ascending.{ascendingb_decides}
 use Rattle.committee.specs.Committee.{committee_check}
+use Rattle.std.proofs.Common.{Ok, Err}
+use Rattle.refusal.specs.declared.Refusal.{Refusal}
+use Rattle.refusal.specs.declared.Refusal.TheVariants.{Store}
+use Rattle.refusal.specs.Refusals.{checked, refusal_of}
+use Rattle.refusal.proofs.Numbers.{passed}
 use Rattle.store.specs.declared.BlockStore.{BlockStore}
+use Rattle.store.specs.declared.StoreView.{StoreView}
+use Rattle.store.specs.Views.{view_check}
 use Rattle.store.specs.Store.{indexed, authorities_below, store_check, call_check}
 
 -- ---- What passes
@@ -23,8 +30,8 @@ pub record Checked (s : BlockStore) (index : List ℕ) : Type 0 where
   pub most : s.committee_size ≤ 128
   pub own : s.authority < s.committee_size
   pub fits : 8 * s.rows ≤ length index
-  pub ascends : Ascending (rows_of s.rows index)
-  pub authorities : authorities_below s.committee_size (rows_of s.rows index) ≡ true
+  pub ascends : Ascending (indexed s index)
+  pub authorities : authorities_below s.committee_size (indexed s index) ≡ true
 
 -- a test, and what is checked behind it
 pick_passed : (t : Bool) {n : ℕ} → pick t n 18 ≡ 0 → (t ≡ true) × (n ≡ 0)
@@ -57,17 +64,25 @@ store_checked s index e =
       authorities = authorities.0;
     }
 
--- r is the number that the call's checks gave
-module _ (k used size : ℕ) (s : BlockStore) (index : List ℕ) {r : ℕ} (is : r ≡ call_check k used size s index) (passed : r ≡ 0) where
+-- n is the number that the call's checks give
+module _ (k used size : ℕ) (s : BlockStore) (index : List ℕ) (passes : call_check k used size s index ≡ 0) where
   both : (log_check k used size ≡ 0) × (store_check s index ≡ 0)
   unfolding call_check
-  both = unless_zero (log_check k used size) (sym is ∙ passed)
+  both = unless_zero (log_check k used size) passes
 
   pub call_log : log_check k used size ≡ 0
   call_log = both.0
 
   pub call_checked : Checked s index
   call_checked = store_checked s index both.1
+
+-- the same, by what the checks answered
+module _ (v : StoreView) (h : Ok tt ≡ checked (view_check v)) where
+  pub view_passed : view_check v ≡ 0
+  view_passed = passed (view_check v) h
+
+  pub view_checked : Checked v.store v.index.now
+  view_checked = call_checked v.log.exponent v.log.used (length v.log.image.now) v.store v.index.now view_passed
 
 -- ---- The numbers
 
@@ -127,3 +142,33 @@ module _ (k used size : ℕ) (s : BlockStore) (index : List ℕ) where
   pub log_passed : log_check k used size ≡ 0 → store_check s index ≡ call_check k used size s index
   unfolding call_check
   log_passed e = sym (unless_passed (λ (m : ℕ). m) (store_check s index) (log_check k used size) e)
+
+-- ---- The checks of a call, one after the other
+
+abbrev log_number : StoreView → ℕ
+log_number v = log_check v.log.exponent v.log.used (length v.log.image.now)
+
+abbrev committee_number : StoreView → ℕ
+committee_number v = committee_check v.store.committee_size v.store.authority
+
+module _ (v : StoreView) where
+  pub view_refused_log : {r : Refusal} → Err r ≡ checked (log_number v) → Err r ≡ checked (view_check v)
+  unfolding call_check
+  view_refused_log h = first_refused (log_number v) (store_check v.store v.index.now) h
+
+  module _ (log : Ok tt ≡ checked (log_number v)) where
+    store_decides : checked (store_check v.store v.index.now) ≡ checked (view_check v)
+    unfolding call_check
+    store_decides = second_decides (log_number v) (store_check v.store v.index.now) log
+
+    pub view_refused_committee : {r : Refusal} → Err r ≡ checked (committee_number v) → Err r ≡ checked (view_check v)
+    unfolding store_check
+    view_refused_committee h = first_refused (committee_number v) _ h ∙ store_decides
+
+    pub view_refused_rows : 18 ≡ store_check v.store v.index.now → Err Store ≡ checked (view_check v)
+    unfolding checked refusal_of pick
+    view_refused_rows h = ap checked h ∙ store_decides
+
+    pub view_passes : 0 ≡ store_check v.store v.index.now → Ok tt ≡ checked (view_check v)
+    unfolding checked
+    view_passes h = ap checked h ∙ store_decides

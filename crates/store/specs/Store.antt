@@ -1,15 +1,16 @@
 -- The store that a call is lent: a struct by value, and its index rows in a table. Document 01, the refusal table and "Lookups".
-use Rattle.std.specs.Prelude.{Bool, true, false, List, [], ◌∷◌, ℕ, ◌/◌, leb, ltb, eqb, length, get_or}
+use Rattle.std.specs.Prelude.{Bool, true, false, List, [], ◌∷◌, ℕ, ◌/◌, leb, ltb, eqb, length, get_or, Result, Ok, Err}
 use Rattle.laws.specs.Pick.{pick}
+use Rattle.refusal.specs.declared.Refusal.{Refusal}
+use Rattle.refusal.specs.Refusals.{as_refused}
 use Rattle.wal_position.specs.Checks.{log_check, unless}
 use Rattle.rows.specs.Rows.{rows_of, ascendingb}
 use Rattle.committee.specs.Committee.{committee_check}
 use Rattle.wal.specs.declared.Walked.{Walked}
-use Rattle.wal.specs.Answers.{walked_number}
+use Rattle.wal.specs.declared.RefusedAt.{RefusedAt}
 use Rattle.state.specs.declared.Replay.{Replay}
 use Rattle.recovered.specs.declared.Recovered.{Recovered}
 use Rattle.store.specs.declared.BlockStore.{BlockStore}
-use Rattle.store.specs.declared.Opened.{Opened}
 
 -- the index, as a list of rows
 unfoldable pub indexed : BlockStore → List ℕ → List (List ℕ)
@@ -38,10 +39,6 @@ loaded r = pick (eqb (get_or r 7 0) 0) false true
 
 -- ---- The store that recovery leaves
 
--- "A refusal gives its number": that of the recovery, then 18 for the committee; 0 where there is none
-unfoldable pub open_number : Walked → ℕ → ℕ → ℕ
-open_number w size own = unless (walked_number w) (λ n. n) (committee_check size own)
-
 -- "no load counted yet"; that all are unloaded is for the rows to say (`block_row`)
 unfoldable pub opened_of : ℕ → ℕ → Replay → BlockStore
 opened_of size own r =
@@ -53,9 +50,13 @@ opened_of size own r =
       summary = r.blocks.summary;
     }
 
--- what opening answers: a number other than 0 opens no store
-unfoldable pub opened : ℕ → ℕ → Recovered → Opened
-opened size own r = record { number = open_number r.walked size own; store = opened_of size own r.replay }
+-- What opening answers. "A refusal gives its number": that of the recovery, then 18 for the committee.
+unfoldable pub opened_by : ℕ → ℕ → Result Walked RefusedAt → Replay → Result BlockStore Refusal
+opened_by size own (Err at) r = Err at.refusal
+opened_by size own (Ok w) r = unless (committee_check size own) as_refused (Ok (opened_of size own r))
+
+abbrev pub opened : ℕ → ℕ → Recovered → Result BlockStore Refusal
+opened size own r = opened_by size own r.walked r.replay
 
 -- The last seen round of any authority: 0 from 128 on. A field of the store's value, as the other getters give: no log and no row is
 -- read, so that 1, 2 and 18 do not arise.

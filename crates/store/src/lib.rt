@@ -7,13 +7,16 @@
 
 ghost use Rattle.std.specs.Prelude.{◌≡◌, false, ◌*◌, ◌≤◌, length};
 ghost use Rattle.laws.specs.Pick.{pick};
-ghost use Rattle.rows.specs.Rows.{rows_of, ascendingb};
-ghost use Rattle.store.specs.Store.{authorities_below, store_check, call_check, open_number, opened, last_seen_of};
+ghost use Rattle.refusal.specs.Refusals.{checked};
+ghost use Rattle.rows.specs.Rows.{ascendingb};
+ghost use Rattle.store.specs.Store.{authorities_below, opened, last_seen_of, indexed};
+ghost use Rattle.store.specs.Views.{view_check};
 
 use index::StoreSummary;
 use recovered::Recovered;
+use refusal::Refusal;
 use types::{AuthorityIndex, BlockReference, RoundNumber};
-use wal::Walked;
+use wal_position::Log;
 
 // The committee's size and the own authority, the index rows counted, the blocks read from the log
 // because they were not loaded, and the summary.
@@ -26,41 +29,28 @@ pub struct BlockStore {
     pub summary: StoreSummary,
 }
 
-// The refusal's number, or 0 and the store.
-#[derive(Clone, Copy)]
-pub struct Opened {
-    pub number: u8,
-    pub store: BlockStore,
-}
-
-// The recovery's number, then the committee's: 0, or the refusal's number.
-fn open_number(walked: Walked, committee_size: u64, authority: AuthorityIndex) -> u8
-    ensures { result ≡ open_number walked committee_size authority }
-{
-    let number = walked.number();
-    if number != 0 {
-        return number;
-    }
-    committee::check_committee(committee_size, authority)
-}
-
 impl BlockStore {
-    // The store that a recovery for this committee and own authority leaves. Refused with the recovery's number,
-    // then with 18 for the committee; the store beside a number other than 0 is none.
-    pub fn open(committee_size: u64, authority: AuthorityIndex, recovered: Recovered) -> Opened
+    // The store that a recovery for this committee and own authority leaves. Refused as the recovery was, then
+    // with 18 for the committee.
+    pub fn open(
+        committee_size: u64,
+        authority: AuthorityIndex,
+        recovered: Recovered,
+    ) -> Result<BlockStore, Refusal>
         ensures { result ≡ opened committee_size authority recovered }
     {
-        let blocks = recovered.replay.blocks;
-        Opened {
-            number: open_number(recovered.walked, committee_size, authority),
-            store: BlockStore {
-                committee_size,
-                authority,
-                rows: blocks.index,
-                loads: 0,
-                summary: blocks.summary,
-            },
+        if let Err(at) = recovered.walked {
+            return Err(at.refusal);
         }
+        committee::check_committee(committee_size, authority)?;
+        let blocks = recovered.replay.blocks;
+        Ok(BlockStore {
+            committee_size,
+            authority,
+            rows: blocks.index,
+            loads: 0,
+            summary: blocks.summary,
+        })
     }
 
     pub fn len_expensive(self) -> usize
@@ -90,46 +80,49 @@ impl BlockStore {
     }
 }
 
+// A store as a call is lent it: the log that it indexes, its value, and its index rows.
+#[derive(Clone, Copy)]
+pub struct StoreView<'a> {
+    pub log: Log<'a>,
+    pub store: BlockStore,
+    pub index: &'a [u64],
+}
+
+impl StoreView<'_> {
+    // The checks 1, 2 and 18, with which every query and cleanup begins.
+    pub fn check(&self) -> Result<(), Refusal>
+        ensures { result ≡ checked (view_check self.now) }
+    {
+        self.log.check()?;
+        committee::check_committee(self.store.committee_size, self.store.authority)?;
+        if self.index.len() / 8 < self.store.rows
+            || !check_rows(self.rows(), self.store.committee_size)
+        {
+            return Err(Refusal::Store);
+        }
+        Ok(())
+    }
+
+    // The index rows counted.
+    #[tactic(auto, unfolding(crate::specs::Store::indexed))]
+    pub fn rows(&self) -> &[[u64; 8]]
+        requires { 8 * self.now.store.rows ≤ length self.now.index.now }
+        ensures { result.now ≡ indexed self.now.store self.now.index.now }
+    {
+        rows::rows_of(self.index, self.store.rows)
+    }
+}
+
 // Whether each key is strictly below the next, and each row's authority below the committee's size. One
 // pass, since every call makes it.
-fn check_rows(index: &[u64], count: usize, size: u64) -> bool
-    requires { 8 * count ≤ length index.now }
-    ensures { result ≡ pick (ascendingb (rows_of count index.now))
-        (authorities_below size (rows_of count index.now)) false }
+fn check_rows(rows: &[[u64; 8]], size: u64) -> bool
+    ensures { result ≡ pick (ascendingb rows.now) (authorities_below size rows.now) false }
 {
-    for i in 1..count {
-        let before = i - 1;
-        if size <= index[8 * before + 1] {
-            return false;
-        }
-        if rows::compare_key(index, before, rows::key_at(index, i)).is_ge() {
-            return false;
-        }
-    }
-    count == 0 || index[8 * (count - 1) + 1] < size
-}
-
-// The check 18 of a lent store: 0, or the refusal's number.
-pub fn check_store(store: BlockStore, index: &[u64]) -> u8
-    ensures { result ≡ store_check store index.now }
-{
-    let number = committee::check_committee(store.committee_size, store.authority);
-    if number != 0 {
-        return number;
-    }
-    if index.len() / 8 < store.rows || !check_rows(index, store.rows, store.committee_size) {
-        return 18;
-    }
-    0
-}
-
-// The checks 1, 2 and 18, with which every query and cleanup begins: 0, or the refusal's number.
-pub fn check_call(k: u64, image: &[u8], used: u64, store: BlockStore, index: &[u64]) -> u8
-    ensures { result ≡ call_check k used (length image.now) store index.now }
-{
-    let number = wal_position::check_log(k, used, image.len() as u64);
-    if number != 0 {
-        return number;
-    }
-    check_store(store, index)
+    let Some((first, _)) = rows.split_first() else {
+        return true;
+    };
+    first[1] < size
+        && rows.is_sorted_by(|row, next| {
+            next[1] < size && rows::compare_key(row, &rows::key(next)).is_lt()
+        })
 }

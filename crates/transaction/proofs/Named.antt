@@ -4,7 +4,7 @@ use mathlib.Core.Path.{◌≡◌, refl, sym, ap, ◌∙◌}
 use mathlib.Core.List.{List, [], ◌∷◌}
 use mathlib.Core.Logic.{⊎_elim}
 use mathlib.Core.Option.{none, some}
-use Rattle.std.specs.Prelude.{Option, Some, None}
+use Rattle.std.specs.Prelude.{Option, Some, None, Ok}
 use Rattle.bincode.specs.declared.Cursor.{Cursor}
 use Prim.Native.Nat.{ℕ, zero, suc, ◌+◌, ◌≤◌, ◌<◌}
 use native.Mathlib.Omega.{arith}
@@ -24,6 +24,8 @@ use Rattle.store.specs.declared.BlockStore.{BlockStore}
 use Rattle.block_reader.specs.Reading as reading
 use Rattle.block_reader.specs.Reading.{block_at}
 use Rattle.block_reader.proofs.Decoding.{Decoded, read_decodes}
+use Rattle.query.specs.Query.{unloaded, counted}
+use Rattle.transaction.specs.declared.FoundTransaction.{FoundTransaction}
 use Rattle.transaction.specs.Transaction.{share_in, placed, transaction_of, share_bytes, transaction_in, named}
 use Rattle.transaction.proofs.Shares.{given, span_end, next_lies, share_within}
 
@@ -71,7 +73,9 @@ named_placed s at n (Some c) h = ap (λ (l : List ℕ). some l) (sym (part_of_pa
 -- what is answered for a row whose block was read: the block decodes at its place, with the reference that was read
 pub record Names (k : ℕ) (s : List ℕ) (used : ℕ) (store : BlockStore) (offset : ℕ) (row : List ℕ) (r : BlockReference) (at n : ℕ) : Type 0 where
   pub block : Decoded s r at n
-  pub transaction : named s (transaction_of k s used store offset (row ∷ [])).share ≡ transaction_in block.value.statements offset
+  pub found : FoundTransaction
+  pub answer : transaction_of k s used store offset (row ∷ []) ≡ Ok found
+  pub transaction : named s found.share ≡ transaction_in block.value.statements offset
 
 pub transaction_named : (k : ℕ) (s : List ℕ) (used : ℕ) (store : BlockStore) (offset : ℕ) (row : List ℕ) → AllBytes s
     → {r : BlockReference} {at n : ℕ} → block_at k s used (get_or row 6 0) ≡ reading.BlockRead.got r at n
@@ -83,5 +87,7 @@ transaction_named k s used store offset row all {r} {at} {n} is =
     let lies : span_end t ≤ n = omega (arith, share_within (bytes_at s at n) offset, length_bytes_at s at n d.within) in
     record {
       block = d;
-      transaction = rw is (named_placed s at n t lies ∙ share_named (bytes_at s at n) d.decodes offset);
+      found = record { share = placed at t; store = counted store (unloaded (row ∷ [])) };
+      answer = rw is refl;
+      transaction = named_placed s at n t lies ∙ share_named (bytes_at s at n) d.decodes offset;
     }

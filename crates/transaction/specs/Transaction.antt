@@ -1,6 +1,8 @@
 -- A transaction by its locator. Document 01, "Lookups": "transaction (only a Share gives one)".
-use Rattle.std.specs.Prelude.{List, [], ◌∷◌, ℕ, zero, suc, ◌+◌, ◌-◌, length, get_or, Option, Some, None}
+use Rattle.std.specs.Prelude.{List, [], ◌∷◌, ℕ, zero, suc, ◌+◌, ◌-◌, length, get_or, Option, Some, None, Result, Ok, Err}
 use Rattle.std.proofs.Math.Option.{Option as Optional, none, some}
+use Rattle.refusal.specs.declared.Refusal.{Refusal}
+use Rattle.refusal.specs.Refusals.{refusal_of, as_refused}
 use Rattle.laws.specs.Bytes.{bytes_at}
 use Rattle.laws.specs.Parse.{Res, bad, got, answer}
 use Rattle.bincode.specs.declared.Cursor.{Cursor}
@@ -36,26 +38,23 @@ unfoldable pub placed : ℕ → Option Cursor → Option Cursor
 placed at None = None
 placed at (Some c) = Some (record { at = at + c.at; left = c.left })
 
-unfoldable pub refused_transaction : ℕ → BlockStore → FoundTransaction
-refused_transaction n s = record { number = n; share = None; store = s }
-
 -- of the row with the locator's reference, if there is one: the block is read, and its load counted, before the offset is looked at
-unfoldable pub transaction_of : ℕ → List ℕ → ℕ → BlockStore → ℕ → List (List ℕ) → FoundTransaction
-transaction_of k s used store offset [] = record { number = 0; share = None; store = store }
+unfoldable pub transaction_of : ℕ → List ℕ → ℕ → BlockStore → ℕ → List (List ℕ) → Result FoundTransaction Refusal
+transaction_of k s used store offset [] = Ok (record { share = None; store = store })
 transaction_of k s used store offset (r ∷ rows) = from (block_at k s used (get_or r 6 0))
   where
-    from : BlockRead → FoundTransaction
-    from (reading.BlockRead.refused n) = refused_transaction n store
+    from : BlockRead → Result FoundTransaction Refusal
+    from (reading.BlockRead.refused n) = Err (refusal_of n)
     from (reading.BlockRead.got reference at n) =
-        record { number = 0; share = placed at (share_in (bytes_at s at n) offset); store = counted store (unloaded (r ∷ [])) }
+        Ok (record { share = placed at (share_in (bytes_at s at n) offset); store = counted store (unloaded (r ∷ [])) })
 
 -- `n` is the number of 1, 2 and 18, `chosen` the rows with the locator's reference
-unfoldable pub transaction_answer : ℕ → ℕ → List ℕ → ℕ → BlockStore → ℕ → List (List ℕ) → FoundTransaction
+unfoldable pub transaction_answer : ℕ → ℕ → List ℕ → ℕ → BlockStore → ℕ → List (List ℕ) → Result FoundTransaction Refusal
 transaction_answer n k s used store offset chosen =
-    unless n (λ m. refused_transaction m store) (transaction_of k s used store offset chosen)
+    unless n as_refused (transaction_of k s used store offset chosen)
 
 -- the call: k, the image and used, the store and its index, and the locator
-abbrev pub get_transaction : ℕ → List ℕ → ℕ → BlockStore → List ℕ → TransactionLocator → FoundTransaction
+abbrev pub get_transaction : ℕ → List ℕ → ℕ → BlockStore → List ℕ → TransactionLocator → Result FoundTransaction Refusal
 get_transaction k image used store index locator =
     transaction_answer (call_check k used (length image) store index) k image used store locator.offset
     (by_reference locator.block (indexed store index))

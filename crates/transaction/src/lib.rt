@@ -4,24 +4,24 @@
 // A transaction by its locator (block_store.rs, get_transaction). The answer is a part of the image.
 #![tactic(auto)]
 
-ghost use Rattle.std.specs.Prelude.{◌≡◌, [], ◌∷◌, ◌+◌, ◌*◌, ◌≤◌, length};
+ghost use Rattle.std.specs.Prelude.{◌≡◌, [], ◌∷◌};
 ghost use Rattle.bincode.specs.Cursors.{next_element};
 ghost use Rattle.types.specs.Records.{statement};
-ghost use Rattle.rows.specs.Rows.{row_at};
-ghost use Rattle.transaction.specs.Transaction.{share_of, share_in, refused_transaction, transaction_of, get_transaction};
+ghost use Rattle.wal_position.specs.Logs.{of_log};
+ghost use Rattle.store.specs.Views.{of_view};
+ghost use Rattle.transaction.specs.Transaction.{share_of, share_in, transaction_of, get_transaction};
 
 use bincode::{Cursor, Decode};
 use blocks::StatementBlock;
+use refusal::Refusal;
 use statements::BaseStatement;
-use store::BlockStore;
+use store::{BlockStore, StoreView};
 use types::TransactionLocator;
 use wal_position::WalPosition;
 
-// A refusal's number, or 0 and the place of the transaction's bytes, if there is one; and the store with
-// the load counted.
+// The place of the transaction's bytes, if there is one, and the store with the load counted.
 #[derive(Clone, Copy)]
 pub struct FoundTransaction {
-    pub number: u8,
     pub share: Option<Cursor>,
     pub store: BlockStore,
 }
@@ -51,82 +51,41 @@ fn share_at(block: &[u8], c: Cursor) -> Option<Cursor>
     }
 }
 
-#[tactic(auto, unfolding(crate::specs::Transaction::refused_transaction))]
-fn refuse(number: u8, store: BlockStore) -> FoundTransaction
-    ensures { result ≡ refused_transaction number store }
-{
-    FoundTransaction {
-        number,
-        share: None,
-        store,
-    }
-}
-
-// The Share in the block of row i: the block is read, and its load counted, before the offset is
+// The Share in the block of a row: the block is read, and its load counted, before the offset is
 // looked at.
 fn read_share(
-    k: u64,
-    image: &[u8],
-    used: u64,
-    store: BlockStore,
-    index: &[u64],
-    i: usize,
+    view: &StoreView<'_>,
+    row: &[u64; 8],
     offset: u64,
-) -> FoundTransaction
-    requires { 8 * i + 8 ≤ length index.now }
-    ensures { result ≡ transaction_of k image.now used store offset (row_at index.now i ∷ []) }
+) -> Result<FoundTransaction, Refusal>
+    ensures { result ≡ of_log transaction_of view.now.log view.now.store offset (row.now ∷ []) }
 {
-    let b = block_reader::read_block(k, image, used, WalPosition(index[8 * i + 6]));
-    if b.number != 0 {
-        return refuse(b.number, store);
-    }
-    let at = b.at;
-    let end = at + b.len;
-    let found = share_in(&image[at..end], offset);
-    let counted = query::count_loads(store, filters::not_loaded(index, i));
-    match found {
-        None => FoundTransaction {
-            number: 0,
-            share: None,
-            store: counted,
-        },
-        Some(bytes) => {
-            let start = at + bytes.at;
-            FoundTransaction {
-                number: 0,
-                share: Some(Cursor {
-                    at: start,
-                    left: bytes.left,
-                }),
-                store: counted,
-            }
-        }
-    }
+    let block = block_reader::read_block(&view.log, WalPosition(row[6]))?;
+    let Cursor { at, left } = block.bytes;
+    let found = share_in(&view.log.image[at..at + left], offset);
+    Ok(FoundTransaction {
+        share: found.map(|share| Cursor {
+            at: at + share.at,
+            left: share.left,
+        }),
+        store: query::count_loads(view.store, filters::not_loaded(row)),
+    })
 }
 
 // The transaction that a locator names: only a Share is one.
 pub fn get_transaction(
-    k: u64,
-    image: &[u8],
-    used: u64,
-    store: BlockStore,
-    index: &[u64],
+    view: &StoreView<'_>,
     locator: TransactionLocator,
-) -> FoundTransaction
-    ensures { result ≡ get_transaction k image.now used store index.now locator }
+) -> Result<FoundTransaction, Refusal>
+    ensures { result ≡ of_view get_transaction view.now locator }
 {
-    let number = store::check_call(k, image, used, store, index);
-    if number != 0 {
-        return refuse(number, store);
-    }
-    let reference = locator.block;
-    let found = rows::find(index, store.rows, index::key_of(reference));
-    match found {
-        Ok(i) => read_share(k, image, used, store, index, i, locator.offset),
-        Err(_) => FoundTransaction {
-            number: 0,
+    view.check()?;
+    let rows = view.rows();
+    match rows::find(rows, index::key_of(locator.block)) {
+        Ok(i) => read_share(view, &rows[i], locator.offset),
+        Err(_) => Ok(FoundTransaction {
             share: None,
-            store,
-        },
+            store: view.store,
+        }),
     }
 }

@@ -1,41 +1,30 @@
 -- `exists::block_exists` meets its contract: the reference's key is found where it is present. Assumes nothing.
-use mathlib.Core.Path.{sym, ap, ◌∙◌}
-use lib.ListN.{length}
-use Rattle.store.specs.Store.{call_check, indexed}
-use Rattle.store.proofs.Checked.{call_checked}
-use Rattle.exists.proofs.Answering.{answer_refused, answer_yes, answer_no}
-use Prim.Native.Nat.{ℕ}
-use mathlib.Core.List.{List}
+use mathlib.Core.Path.{ap, ap₂, ◌∙◌}
+use Rattle.std.proofs.Common.{Ok}
+use Rattle.std.specs.Result.{is_ok}
+use Rattle.refusal.proofs.Numbers.{handed_on}
+use Rattle.wal_position.proofs.Checks.{refused_by, passed_by}
+use Rattle.rows.specs.Rows.{place_of}
 use Rattle.index.specs.Keys.{key_words}
-use Rattle.rows.specs.Rows.{rows_of, has_key, place_of}
-use Rattle.rows.proofs.Places.{at_place, gap_place}
+use Rattle.store.specs.Store.{indexed}
+use Rattle.store.specs.Views.{view_check}
+use Rattle.store.proofs.Checked.{view_checked}
+use Rattle.exists.proofs.Answering.{found_has}
 use Rattle.exists.proofs.block_exists.Goals as goal
 
-pub returns-then-number-ne0 : goal.returns-then-number-ne0
-returns-then-number-ne0 c =
-    let a = c.args in
-    let number = c.check_call-number.ensures in
-    answer_refused (call_check a.k a.used (length a.image.now) a.store a.index.now) number (has_key (key_words a.reference) (indexed a.store a.index.now)) c.if-number-ne0.true
+pub returns-in_err-check : goal.returns-in_err-check
+returns-in_err-check c =
+    handed_on c.from_residual.result c.from_residual.ensures ∙ refused_by (view_check c.args.view.now) _ c.in_err-check.ensures
+
+pub rows-requires : goal.rows-requires
+rows-requires c = (view_checked c.args.view.now c.in_ok-check.ensures).fits
 
 pub find-requires : goal.find-requires
-find-requires c =
-    let a = c.args in
-    let number = c.check_call-number.ensures in
-    let h = call_checked a.k a.used (length a.image.now) a.store a.index.now number c.if-number-ne0.false in
-    (h.fits, h.ascends)
+find-requires c = rw c.rows.ensures (view_checked c.args.view.now c.in_ok-check.ensures).ascends
 
-pub returns-in-Ok : goal.returns-in-Ok
-unfolding indexed
-returns-in-Ok c =
-    let a = c.args in
-    let number = c.check_call-number.ensures in
-    let at = at_place (key_words a.reference) (rows_of a.store.rows a.index.now) (sym c.in-Ok.is ∙ c.find.ensures ∙ ap (λ (k : List ℕ). place_of k (rows_of a.store.rows a.index.now)) c.key_of.ensures) in
-    answer_yes (call_check a.k a.used (length a.image.now) a.store a.index.now) number (has_key (key_words a.reference) (indexed a.store a.index.now)) c.if-number-ne0.false at.0
-
-pub returns-in-Err : goal.returns-in-Err
-unfolding indexed
-returns-in-Err c =
-    let a = c.args in
-    let number = c.check_call-number.ensures in
-    let gap = gap_place (key_words a.reference) (rows_of a.store.rows a.index.now) (sym c.in-Err.is ∙ c.find.ensures ∙ ap (λ (k : List ℕ). place_of k (rows_of a.store.rows a.index.now)) c.key_of.ensures) in
-    answer_no (call_check a.k a.used (length a.image.now) a.store a.index.now) number (has_key (key_words a.reference) (indexed a.store a.index.now)) c.if-number-ne0.false gap.0
+pub returns : goal.returns
+returns c =
+    let v = c.args.view.now in
+    let found = c.find.ensures ∙ ap₂ place_of c.key_of.ensures c.rows.ensures in
+    ap Ok (c.is_ok.ensures.value ∙ ap is_ok found ∙ found_has (key_words c.args.reference) (indexed v.store v.index.now))
+    ∙ passed_by (view_check v) _ c.in_ok-check.ensures

@@ -1,35 +1,24 @@
 -- `exists::block_exists_at_authority_round` meets its contract: the index tells. Assumes nothing.
-use mathlib.Core.Path.{sym, ◌∙◌}
-use lib.ListN.{length}
-use Rattle.store.specs.Store.{call_check, indexed}
-use Rattle.store.proofs.Checked.{call_checked}
-use Rattle.exists.proofs.Answering.{answer_refused, answer_yes, answer_no}
+use mathlib.Core.Path.{ap, ◌∙◌}
+use Rattle.std.proofs.Common.{Ok}
+use Rattle.refusal.proofs.Numbers.{handed_on}
+use Rattle.wal_position.proofs.Checks.{refused_by, passed_by}
 use Rattle.index.specs.Keys.{exists_at}
+use Rattle.store.specs.Views.{view_check}
+use Rattle.store.proofs.Checked.{view_checked}
 use Rattle.exists.proofs.block_exists_at_authority_round.Goals as goal
 
-pub returns-then-number-ne0 : goal.returns-then-number-ne0
-returns-then-number-ne0 c =
-    let a = c.args in
-    let number = c.check_call-number.ensures in
-    answer_refused (call_check a.k a.used (length a.image.now) a.store a.index.now) number (exists_at a.authority a.round (indexed a.store a.index.now)) c.if-number-ne0.true
+pub returns-in_err-check : goal.returns-in_err-check
+returns-in_err-check c =
+    handed_on c.from_residual.result c.from_residual.ensures ∙ refused_by (view_check c.args.view.now) _ c.in_err-check.ensures
+
+pub rows-requires : goal.rows-requires
+rows-requires c = (view_checked c.args.view.now c.in_ok-check.ensures).fits
 
 pub exists_at-requires : goal.exists_at-requires
-exists_at-requires c =
-    let a = c.args in
-    let number = c.check_call-number.ensures in
-    let h = call_checked a.k a.used (length a.image.now) a.store a.index.now number c.if-number-ne0.false in
-    (h.fits, h.ascends)
-
-pub returns-then-exists_at : goal.returns-then-exists_at
-unfolding indexed
-returns-then-exists_at c =
-    let a = c.args in
-    let number = c.check_call-number.ensures in
-    answer_yes (call_check a.k a.used (length a.image.now) a.store a.index.now) number (exists_at a.authority a.round (indexed a.store a.index.now)) c.if-number-ne0.false (sym c.exists_at.ensures ∙ c.if-exists_at.true)
+exists_at-requires c = rw c.rows.ensures (view_checked c.args.view.now c.in_ok-check.ensures).ascends
 
 pub returns : goal.returns
-unfolding indexed
 returns c =
     let a = c.args in
-    let number = c.check_call-number.ensures in
-    answer_no (call_check a.k a.used (length a.image.now) a.store a.index.now) number (exists_at a.authority a.round (indexed a.store a.index.now)) c.if-number-ne0.false (sym c.exists_at.ensures ∙ c.if-exists_at.false)
+    ap Ok (rw c.rows.ensures at c.exists_at.ensures) ∙ passed_by (view_check a.view.now) _ c.in_ok-check.ensures

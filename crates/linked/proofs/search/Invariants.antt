@@ -3,7 +3,9 @@ use Rattle.linked.proofs.Going.{Going}
 use Rattle.linked.proofs.search.Given as goal
 
 abbrev pub invariant-loop-to : goal.invariant-loop-to
-invariant-loop-to l = Going l.k l.image l.used l.later l.earlier l.high l.index l.count l.initial.work l.to l.parents l.above l.unloaded l.found l.work
+invariant-loop-to l =
+    Going l.log.exponent l.log.image.now l.log.used l.later l.earlier l.high l.rows l.initial.work l.to l.parents l.above l.unloaded l.found
+    l.work
 
 abbrev pub decreases-loop-to : goal.decreases-loop-to
 decreases-loop-to l = l.to

@@ -1,7 +1,6 @@
 -- `query::collect` meets its contract: the loop reads the blocks of the rows that it chooses. Assumes nothing.
-use Prim.Native.Nat.{◌≤◌}
-use Rattle.query.proofs.Collecting.{AtRow}
+use Rattle.query.proofs.Collecting.{Collecting}
 use Rattle.query.proofs.collect.Given as goal
 
-abbrev pub invariant-loop-i : goal.invariant-loop-i
-invariant-loop-i l = AtRow l.k l.image l.used l.author l.limit l.index l.from l.to l.i l.n l.unloaded l.out × (l.n ≤ l.i)
+abbrev pub invariant-loop-row : goal.invariant-loop-row
+invariant-loop-row l = Collecting l.log l.author l.limit l.rows l.row-index l.n l.unloaded l.out

@@ -1,18 +1,20 @@
--- `query::finish` meets its contract: each return is the answer of what was collected. Assumes nothing.
-use mathlib.Core.Path.{refl, ap}
-use Rattle.query.proofs.Answering.{finishes_refused, finishes_full, finishes_answers}
+-- `query::finish` meets its contract: more rows than lent are refused. Assumes nothing.
+use mathlib.Core.Path.{sym, refl}
+use borrow.Author.Tests.{lt-ltb, le-ltb}
+use Rattle.laws.specs.Pick.{pick}
+use Rattle.refusal.specs.Refusals.{refusal_of}
+use Rattle.refusal.proofs.Numbers.{handed_on}
+use Rattle.query.specs.Collecting.{finished}
 use Rattle.query.proofs.finish.Goals as goal
 
-pub returns-in-Err : goal.returns-in-Err
-returns-in-Err c =
-    rw c.in-Err.is (finishes_refused c.args.store c.in-Err.number c.refuse.ensures.value c.refuse.ensures.out_after)
+pub returns-in_err-found : goal.returns-in_err-found
+unfolding finished
+returns-in_err-found c = sym (rw c.in_err-found.was (sym (handed_on c.from_residual.result c.from_residual.ensures)))
 
-pub returns-then-out-found : goal.returns-then-out-found
-returns-then-out-found c =
-    rw c.in-Ok.is (finishes_full c.args.store c.in-Ok.found c.if-out-found.true c.refuse-then-out-found.ensures.value c.refuse-then-out-found.ensures.out_after)
+pub returns-then-lent-found : goal.returns-then-lent-found
+unfolding finished refusal_of pick
+returns-then-lent-found c = sym (rw (c.in_ok-found.was, lt-ltb c.args.lent c.in_ok-found.found.rows c.if-lent-found.true) refl)
 
-pub returns-else-out-found : goal.returns-else-out-found
-returns-else-out-found c =
-    rw c.in-Ok.is
-    (finishes_answers c.args.store c.in-Ok.found c.if-out-found.false
-    (ap (λ s. record { number = 0; rows = c.in-Ok.found.rows; store = s }) c.count_loads.ensures) refl)
+pub returns : goal.returns
+unfolding finished pick
+returns c = sym (rw (c.in_ok-found.was, le-ltb c.args.lent c.in_ok-found.found.rows c.if-lent-found.false, c.count_loads.ensures) refl)

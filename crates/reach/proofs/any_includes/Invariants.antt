@@ -2,5 +2,5 @@
 use Rattle.reach.proofs.Asking.{Asking}
 use Rattle.reach.proofs.any_includes.Given as goal
 
-abbrev pub invariant-loop-i : goal.invariant-loop-i
-invariant-loop-i l = Asking l.image l.work l.reference l.from l.to l.i
+abbrev pub invariant-loop-row : goal.invariant-loop-row
+invariant-loop-row l = Asking l.image l.parents l.reference l.row-index

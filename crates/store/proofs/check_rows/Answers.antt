@@ -1,29 +1,24 @@
--- `store::check_rows` meets its contract: the rows from the one before row i on decide. Assumes nothing.
-use mathlib.Core.Path.{◌≡◌, sym, ◌∙◌}
-use native.Mathlib.Omega.{arith}
-use Rattle.store.proofs.Authorities.{passed_start, passed_stop, passed_next, passed_no_more, passed_without_rows, passed_all}
+-- `store::check_rows` meets its contract. Assumes nothing.
+use mathlib.Core.Path.{◌≡◌, sym, ap, ◌∙◌}
+use borrow.Author.Tests.{le-ltb}
+use Rattle.laws.specs.Pick.{pick}
+use Rattle.std.proofs.Common.{rules}
+use Rattle.std.proofs.lemmas.Fn.{always_returns_same}
+use Rattle.store.proofs.Authorities.{in_order, passes, pass_answers, first_not_below, no_rows_pass}
 use Rattle.store.proofs.check_rows.Goals as goal
 
-pub loop-i-init : goal.loop-i-init
-loop-i-init c = passed_start c.args.size c.args.index.now c.args.count
+pub returns-in_default : goal.returns-in_default
+returns-in_default c = no_rows_pass c.args.size c.args.rows.now c.in_default.ensures.cases
 
-pub returns-then-size-index : goal.returns-then-size-index
-returns-then-size-index c = passed_stop c.loop-i.invariant (omega (arith, c.loop-i-test.true)) c.if-size-index.true
+pub returns-then-first-size : goal.returns-then-first-size
+unfolding pick
+returns-then-first-size c =
+    let size = c.args.size in
+    pass_answers size c.in-Some.first.now c.in-Some.field-0-1.now c.args.rows.now c.in-Some.ensures.cases.0 c.if-first-size.true c.is_sorted_by.result
+    (c.is_sorted_by.ensures.cases (in_order size) (always_returns_same _ (λ a r. r ≡ in_order size a.0.now a.1.0.now) _ (λ a r q k. search rules)))
 
-pub returns-then-is_ge : goal.returns-then-is_ge
-returns-then-is_ge c =
-    passed_no_more c.loop-i.invariant (omega arith) (omega (arith, c.loop-i-test.true)) c.key_at.ensures c.compare_key.ensures
-    (sym c.is_ge.ensures ∙ c.if-is_ge.true)
-
-pub loop-i-preserved : goal.loop-i-preserved
-loop-i-preserved c =
-    passed_next c.loop-i.invariant (omega arith) (omega (arith, c.loop-i-test.true)) c.key_at.ensures c.compare_key.ensures c.if-size-index.false
-    (sym c.is_ge.ensures ∙ c.if-is_ge.false) (omega arith)
-
-pub returns-then-count-eq0 : goal.returns-then-count-eq0
-returns-then-count-eq0 c = passed_without_rows c.loop-i.invariant c.if-count-eq0.true
-
-pub returns-else-count-eq0 : goal.returns-else-count-eq0
-returns-else-count-eq0 c =
-    let ne : c.args.count ≡ 0 → ⊥ = c.if-count-eq0.false in
-    passed_all c.loop-i.invariant (omega arith) (omega arith)
+pub returns-else-first-size : goal.returns-else-first-size
+returns-else-first-size c =
+    let r = c.in-Some.first.now in
+    let over = le-ltb _ _ c.if-first-size.false in
+    over ∙ first_not_below c.args.size r c.in-Some.field-0-1.now over ∙ ap (passes c.args.size) (sym c.in-Some.ensures.cases.0)

@@ -1,49 +1,67 @@
 -- `transaction::get_transaction` meets its contract: the row with the locator's key is its one row. Assumes nothing.
-use mathlib.Core.Path.{sym, ap, ◌∙◌}
-use mathlib.Core.List.{List}
+use mathlib.Core.Path.{◌≡◌, sym, ap, ap₂, ◌∙◌}
+use mathlib.Core.List.{List, [], ◌∷◌}
 use Prim.Native.Nat.{ℕ}
-use lib.ListN.{length}
-use Rattle.rows.specs.Rows.{rows_of, place_of}
-use Rattle.store.specs.Store.{indexed, call_check}
-use Rattle.store.proofs.Checked.{Checked}
-use Rattle.filters.specs.Filters.{by_reference}
-use Rattle.query.proofs.Answering.{passed_call, checked_call}
-use Rattle.filters.proofs.Queries.{no_reference_lem}
-use Rattle.transaction.specs.Transaction.{transaction_of}
-use Rattle.transaction.proofs.Transactions.{row_fits, row_reference, call_refused, call_passed}
+use native.Mathlib.Omega.{arith}
+use lib.ListN.{length, get_or}
+use Rattle.refusal.proofs.Numbers.{handed_on}
+use Rattle.wal_position.specs.Logs.{of_log}
+use Rattle.wal_position.proofs.Checks.{refused_by, passed_by}
+use Rattle.rows.specs.Rows.{place_of}
+use Rattle.index.specs.Keys.{key_words}
+use Rattle.store.specs.Store.{indexed}
+use Rattle.store.specs.Views.{view_check}
+use Rattle.store.proofs.Checked.{view_checked}
+use Rattle.filters.proofs.Slices.{reference_row, reference_absent}
+use Rattle.transaction.specs.Transaction.{transaction_of, transaction_answer}
 use Rattle.transaction.proofs.get_transaction.Goals as goal
+use Rattle.transaction.proofs.get_transaction.Goals.{After-find}
 
-pub returns-then-number-ne0 : goal.returns-then-number-ne0
-returns-then-number-ne0 c =
-    let a = c.args in
-    c.refuse.ensures
-    ∙ call_refused a.k a.image.now a.used a.store a.locator.offset (call_check a.k a.used (length a.image.now) a.store a.index.now) (by_reference a.locator.block (indexed a.store a.index.now)) c.check_call-number.ensures c.if-number-ne0.true
+-- where the row is
+place : (c : After-find) → c.find.result ≡ place_of (key_words c.args.locator.block) (indexed c.args.view.now.store c.args.view.now.index.now)
+place c = c.find.ensures ∙ ap₂ place_of c.key_of.ensures c.rows-rows.ensures
 
-pub find-found-requires : goal.find-found-requires
-find-found-requires c =
-    let a = c.args in
-    let h : Checked a.store a.index.now = checked_call a.k a.used (length a.image.now) a.store a.index.now c.check_call-number.ensures c.if-number-ne0.false in
-    (h.fits, h.ascends)
+pub returns-in_err-check : goal.returns-in_err-check
+unfolding transaction_answer
+returns-in_err-check c =
+    handed_on c.from_residual.result c.from_residual.ensures ∙ refused_by (view_check c.args.view.now) _ c.in_err-check.ensures
 
-pub read_share-requires : goal.read_share-requires
-read_share-requires c =
-    let a = c.args in
-    let h : Checked a.store a.index.now = checked_call a.k a.used (length a.image.now) a.store a.index.now c.check_call-number.ensures c.if-number-ne0.false in
-    row_fits a.index.now a.store.rows h.fits h.ascends a.locator.block (sym c.in-Ok.is ∙ c.find-found.ensures ∙ ap (λ (k : List ℕ). place_of k (rows_of a.store.rows a.index.now)) c.key_of.ensures)
+pub rows-rows-requires : goal.rows-rows-requires
+rows-rows-requires c = (view_checked c.args.view.now c.in_ok-check.ensures).fits
+
+pub find-requires : goal.find-requires
+find-requires c = rw c.rows-rows.ensures (view_checked c.args.view.now c.in_ok-check.ensures).ascends
+
+pub offset_bounds-rows-i : goal.offset_bounds-rows-i
+offset_bounds-rows-i c =
+    let v = c.args.view.now in
+    let ascends = (view_checked v c.in_ok-check.ensures).ascends in
+    let at = reference_row (indexed v.store v.index.now) ascends c.args.locator.block (sym c.in-Ok.is ∙ place (goal.at.offset_bounds-rows-i c).After-find) in
+    let long : length c.rows-rows.result.now ≡ length (indexed v.store v.index.now) = ap length c.rows-rows.ensures in
+    omega (arith, at.0, long, c.rows-rows.type_inv)
+
+pub bounds-rows-i : goal.bounds-rows-i
+bounds-rows-i c =
+    let v = c.args.view.now in
+    let ascends = (view_checked v c.in_ok-check.ensures).ascends in
+    rw c.rows-rows.ensures (reference_row (indexed v.store v.index.now) ascends c.args.locator.block (sym c.in-Ok.is ∙ place (goal.at.bounds-rows-i c).After-find)).0
 
 pub returns-in-Ok : goal.returns-in-Ok
-unfolding indexed
+unfolding transaction_answer
 returns-in-Ok c =
     let a = c.args in
-    let h : Checked a.store a.index.now = checked_call a.k a.used (length a.image.now) a.store a.index.now c.check_call-number.ensures c.if-number-ne0.false in
+    let v = a.view.now in
+    let rows = indexed v.store v.index.now in
+    let at = reference_row rows (view_checked v c.in_ok-check.ensures).ascends a.locator.block (sym c.in-Ok.is ∙ place (goal.at.returns-in-Ok c).After-find) in
     c.read_share.ensures
-    ∙ call_passed a.k a.image.now a.used a.store a.locator.offset (call_check a.k a.used (length a.image.now) a.store a.index.now) (by_reference a.locator.block (indexed a.store a.index.now)) (passed_call a.k a.used (length a.image.now) a.store a.index.now c.check_call-number.ensures c.if-number-ne0.false)
-    (row_reference a.index.now a.store.rows h.fits h.ascends a.locator.block (sym c.in-Ok.is ∙ c.find-found.ensures ∙ ap (λ (k : List ℕ). place_of k (rows_of a.store.rows a.index.now)) c.key_of.ensures))
+    ∙ ap (of_log transaction_of v.log v.store a.locator.offset) (ap (λ (l : List (List ℕ)). get_or l c.in-Ok.i [] ∷ []) c.rows-rows.ensures ∙ at.1)
+    ∙ passed_by (view_check v) _ c.in_ok-check.ensures
 
 pub returns-in-Err : goal.returns-in-Err
-unfolding indexed transaction_of
+unfolding transaction_of transaction_answer
 returns-in-Err c =
     let a = c.args in
-    let h : Checked a.store a.index.now = checked_call a.k a.used (length a.image.now) a.store a.index.now c.check_call-number.ensures c.if-number-ne0.false in
-    call_passed a.k a.image.now a.used a.store a.locator.offset (call_check a.k a.used (length a.image.now) a.store a.index.now) (by_reference a.locator.block (indexed a.store a.index.now)) (passed_call a.k a.used (length a.image.now) a.store a.index.now c.check_call-number.ensures c.if-number-ne0.false)
-    (sym (no_reference_lem a.index.now a.store.rows h.fits h.ascends a.locator.block (sym c.in-Err.is ∙ c.find-found.ensures ∙ ap (λ (k : List ℕ). place_of k (rows_of a.store.rows a.index.now)) c.key_of.ensures)))
+    let v = a.view.now in
+    let rows = indexed v.store v.index.now in
+    ap (of_log transaction_of v.log v.store a.locator.offset) (sym (reference_absent rows a.locator.block (sym c.in-Err.is ∙ place (goal.at.returns-in-Err c).After-find)))
+    ∙ passed_by (view_check v) _ c.in_ok-check.ensures

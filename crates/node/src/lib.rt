@@ -39,9 +39,11 @@ ghost use Rattle.node.specs.Calls.{GivesWalk, GivesRecovery, GivesPage, GivesApp
 use bincode::Decode;
 use blocks::StatementBlock;
 use commits::{Commit, CommitData, OwnBlockData};
+use node_words::number_at;
+use refusal::number_of;
 use statements::BaseStatement;
 use types::TransactionLocator;
-use wal::{WalPosition, WalWriter};
+use wal::{Log, WalPosition, WalWriter};
 
 // 0.2.1: major * 65536 + minor * 256 + patch.
 pub const VERSION: u32 = 0x0000_0201;
@@ -61,9 +63,8 @@ pub extern "C" fn kadzhomir_append(
 {
     let writer = WalWriter { exponent: k, used };
     let found = wal::append(writer, image, tag, payload);
-    let words = node_log::append_words(used, found);
-    *answer = words;
-    node_log::append_number(found)
+    *answer = node_log::append_words(used, found);
+    number_of(&found)
 }
 
 // Reads the entry at a position.
@@ -77,7 +78,12 @@ pub extern "C" fn kadzhomir_read(
 ) -> u8
     ensures { Reads (read_answer k image.now used position) result answer.new }
 {
-    let found = wal::read(k, image, used, WalPosition(position));
+    let log = Log {
+        exponent: k,
+        image,
+        used,
+    };
+    let found = wal::read(&log, WalPosition(position));
     node_log::put_found(answer, found)
 }
 
@@ -92,7 +98,12 @@ pub extern "C" fn kadzhomir_walk_step(
 ) -> u8
     ensures { Steps (walk_step_answer k image.now used e) result answer.new }
 {
-    let step = wal::walk_step(k, image, used, WalPosition(e));
+    let log = Log {
+        exponent: k,
+        image,
+        used,
+    };
+    let step = wal::walk_step(&log, WalPosition(e));
     node_log::put_step(answer, step)
 }
 
@@ -101,10 +112,14 @@ pub extern "C" fn kadzhomir_walk_step(
 pub extern "C" fn kadzhomir_walk(k: u64, image: &[u8], used: u64, answer: &mut [u64; 5]) -> u8
     ensures { GivesWalk (walk_answer k image.now used) result answer.new }
 {
-    let found = wal::walk(k, image, used);
-    let words = node_words::walk_words(found);
-    *answer = words;
-    found.number()
+    let log = Log {
+        exponent: k,
+        image,
+        used,
+    };
+    let found = wal::walk(&log);
+    *answer = node_words::walk_words(found);
+    number_at(&found)
 }
 
 // Recovers what a log holds into the tables, and answers the refusal's number, 0 where there is none.
@@ -126,10 +141,13 @@ pub extern "C" fn kadzhomir_recover(
         result answer.new
         (tables pending.new unprocessed.new committed.new index.new) }
 {
-    let r = recovery::recover(
-        k,
+    let log = Log {
+        exponent: k,
         image,
         used,
+    };
+    let r = recovery::recover(
+        &log,
         size,
         own,
         pending,
@@ -138,8 +156,7 @@ pub extern "C" fn kadzhomir_recover(
         index,
     );
     node_words::put_recovered(answer, r);
-    let walked = r.walked;
-    walked.number()
+    number_at(&r.walked)
 }
 
 // Recovers what a log holds into the tables, as `kadzhomir_recover` does, and fills `out` with the recovery page:
@@ -165,10 +182,13 @@ pub extern "C" fn kadzhomir_recovery_page(
         (tables pending.new unprocessed.new committed.new index.new)
         out.new }
 {
-    let r = page::recovery_page(
-        k,
+    let log = Log {
+        exponent: k,
         image,
         used,
+    };
+    let r = page::recovery_page(
+        &log,
         size,
         own,
         pending,
@@ -178,7 +198,7 @@ pub extern "C" fn kadzhomir_recovery_page(
         out,
     );
     *length = r.length as u64;
-    r.number
+    number_of(&r.recovered)
 }
 
 // Puts the store that a recovery for this committee and own authority leaves: its answer is `recovered`.
@@ -225,7 +245,7 @@ pub extern "C" fn kadzhomir_insert_block(
     let s = node_store::store_of(store);
     let writer = WalWriter { exponent: k, used };
     let r = insert::insert_block(writer, image, s, index, block);
-    node_answers::put_inserted(store, answer, r)
+    node_answers::put_inserted(store, answer, used, r)
 }
 
 // Logs an own block, its next entry and its bytes, with tag 3, and indexes it.
@@ -246,7 +266,7 @@ pub extern "C" fn kadzhomir_insert_own_block(
     let s = node_store::store_of(store);
     let writer = WalWriter { exponent: k, used };
     let r = insert::insert_own_block(writer, image, s, index, own_block);
-    node_answers::put_inserted(store, answer, r)
+    node_answers::put_inserted(store, answer, used, r)
 }
 
 // Unloads rounds up to t.
@@ -267,7 +287,12 @@ pub extern "C" fn kadzhomir_cleanup(
         ≡ cleanup_index k image.now used (store_of store.now) index.old t }
 {
     let s = node_store::store_of(store);
-    let cleaned = cleanup::cleanup(k, image, used, s, index, t);
+    let log = Log {
+        exponent: k,
+        image,
+        used,
+    };
+    let cleaned = cleanup::cleanup(&log, s, index, t);
     node_answers::put_cleaned(answer, cleaned)
 }
 
@@ -287,9 +312,9 @@ pub extern "C" fn kadzhomir_block_exists(
         (reference_of reference.now))
         result answer.new }
 {
-    let s = node_store::store_of(store);
+    let view = node_store::view_of(k, image, used, store, index);
     let x = node_store::reference_at(reference, 0);
-    let told = exists::block_exists(k, image, used, s, index, x);
+    let told = exists::block_exists(&view, x);
     node_answers::put_told(answer, told)
 }
 
@@ -309,8 +334,8 @@ pub extern "C" fn kadzhomir_block_exists_at_authority_round(
         (block_exists_at k image.now used (store_of store.now) index.now authority round)
         result answer.new }
 {
-    let s = node_store::store_of(store);
-    let told = exists::block_exists_at_authority_round(k, image, used, s, index, authority, round);
+    let view = node_store::view_of(k, image, used, store, index);
+    let told = exists::block_exists_at_authority_round(&view, authority, round);
     node_answers::put_told(answer, told)
 }
 
@@ -331,13 +356,9 @@ pub extern "C" fn kadzhomir_all_blocks_exists_at_authority_round(
         authorities.now round)
         result answer.new }
 {
-    let s = node_store::store_of(store);
+    let view = node_store::view_of(k, image, used, store, index);
     let told = exists::all_blocks_exists_at_authority_round(
-        k,
-        image,
-        used,
-        s,
-        index,
+        &view,
         authorities,
         round,
     );
@@ -361,9 +382,9 @@ pub extern "C" fn kadzhomir_get_block(
         (reference_of reference.now))
         store.old result store.new answer.new out.old out.new }
 {
-    let s = node_store::store_of(store);
+    let view = node_store::view_of(k, image, used, store, index);
     let x = node_store::reference_at(reference, 0);
-    let r = lookup::get_block(k, image, used, s, index, x, out);
+    let r = lookup::get_block(&view, x, out);
     node_answers::put_looked(store, answer, r)
 }
 
@@ -384,8 +405,8 @@ pub extern "C" fn kadzhomir_get_blocks_by_round(
         round)
         store.old result store.new answer.new out.old out.new }
 {
-    let s = node_store::store_of(store);
-    let r = lookup::get_blocks_by_round(k, image, used, s, index, round, out);
+    let view = node_store::view_of(k, image, used, store, index);
+    let r = lookup::get_blocks_by_round(&view, round, out);
     node_answers::put_looked(store, answer, r)
 }
 
@@ -407,8 +428,8 @@ pub extern "C" fn kadzhomir_get_blocks_at_authority_round(
         authority round)
         store.old result store.new answer.new out.old out.new }
 {
-    let s = node_store::store_of(store);
-    let r = lookup::get_blocks_at_authority_round(k, image, used, s, index, authority, round, out);
+    let view = node_store::view_of(k, image, used, store, index);
+    let r = lookup::get_blocks_at_authority_round(&view, authority, round, out);
     node_answers::put_looked(store, answer, r)
 }
 
@@ -430,8 +451,8 @@ pub extern "C" fn kadzhomir_get_own_blocks(
         from_excluded limit)
         store.old result store.new answer.new out.old out.new }
 {
-    let s = node_store::store_of(store);
-    let r = lookup_after::get_own_blocks(k, image, used, s, index, from_excluded, limit, out);
+    let view = node_store::view_of(k, image, used, store, index);
+    let r = lookup_after::get_own_blocks(&view, from_excluded, limit, out);
     node_answers::put_looked(store, answer, r)
 }
 
@@ -454,13 +475,9 @@ pub extern "C" fn kadzhomir_get_others_blocks(
         from_excluded authority limit)
         store.old result store.new answer.new out.old out.new }
 {
-    let s = node_store::store_of(store);
+    let view = node_store::view_of(k, image, used, store, index);
     let r = lookup_after::get_others_blocks(
-        k,
-        image,
-        used,
-        s,
-        index,
+        &view,
         from_excluded,
         authority,
         limit,
@@ -486,10 +503,10 @@ pub extern "C" fn kadzhomir_get_transaction(
         (record { block = reference_of reference.now; offset = offset }))
         result store.old store.new answer.new }
 {
-    let s = node_store::store_of(store);
+    let view = node_store::view_of(k, image, used, store, index);
     let block = node_store::reference_at(reference, 0);
     let locator = TransactionLocator { block, offset };
-    let r = transaction::get_transaction(k, image, used, s, index, locator);
+    let r = transaction::get_transaction(&view, locator);
     node_answers::put_transaction(store, answer, r)
 }
 
@@ -512,9 +529,9 @@ pub extern "C" fn kadzhomir_linked(
         result store.old store.new answer.new }
     ensures work_after { work.new ≡ zeros (length work.old) }
 {
-    let s = node_store::store_of(store);
+    let view = node_store::view_of(k, image, used, store, index);
     let x = node_store::reference_at(earlier, 0);
-    let r = linked::linked(k, image, used, s, index, later, x, work);
+    let r = linked::linked(&view, later, x, work);
     node_answers::put_linked(store, answer, r)
 }
 

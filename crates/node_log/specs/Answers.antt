@@ -1,17 +1,18 @@
 -- The words of the answer of each call on a log, and of each decoded record, in the order in which they are put, and its number. What is
 -- missing is zeros.
-use Rattle.std.specs.Prelude.{◌≡◌, Option, Some, None, List, [], ◌∷◌, ◌++◌, ℕ, suc, replicate}
+use Rattle.std.specs.Prelude.{◌≡◌, Option, Some, None, List, [], ◌∷◌, ◌++◌, ℕ, suc, replicate, Result, Ok, Err}
+use Rattle.refusal.specs.declared.Refusal.{Refusal}
+use Rattle.refusal.specs.Refusals.{number, number_of}
 use Rattle.wal_reader.specs.declared.WalEntry.{WalEntry}
-use Rattle.wal_reader.specs.declared.Found.{Found}
-use Rattle.wal_reader.specs.declared.Found.TheVariants.{Entry as Found-as-Entry, Refused as Found-as-Refused}
+use Rattle.wal.specs.declared.RefusedAt.{RefusedAt}
 use Rattle.wal.specs.declared.WalkStep.{WalkStep}
-use Rattle.wal.specs.declared.WalkStep.TheVariants.{Entry as Step-as-Entry, Stopped as Step-as-Stopped, Refused as Step-as-Refused}
-use Rattle.wal_writer.specs.declared.Appended.{Appended}
-use Rattle.wal_writer.specs.declared.Appended.TheVariants.{At, Refused as Appended-as-Refused}
+use Rattle.wal.specs.declared.WalkStep.TheVariants.{Entry as Step-as-Entry, Stopped as Step-as-Stopped}
+use Rattle.wal_position.specs.declared.WalPosition.{WalPosition}
+use Rattle.wal_writer.specs.declared.WalWriter.{WalWriter}
 use Rattle.types.specs.declared.BlockReference.{BlockReference}
 use Rattle.blocks.specs.declared.StatementBlock.{StatementBlock}
 use Rattle.index.specs.Keys.{key_words}
-use Rattle.node_words.specs.Words.{flag, stop_word}
+use Rattle.node_words.specs.Words.{flag, stop_word, number_at}
 
 -- ---- What is put
 
@@ -22,48 +23,32 @@ pub record Gives (x : ℕ) (v : List ℕ) (n : ℕ) (a : List ℕ) : Type 0 wher
 
 -- ---- The log
 
--- of an append: the refusal's number
-unfoldable pub append_number : Appended → ℕ
-append_number (At p w) = 0
-append_number (Appended-as-Refused n) = n
-
--- the number, the entry's position, and used after the call: a refusal keeps it
-unfoldable pub append_words : ℕ → Appended → List ℕ
-append_words used (At p w) = 0 ∷ p.0 ∷ w.used ∷ []
-append_words used (Appended-as-Refused n) = n ∷ 0 ∷ used ∷ []
+-- of an append: the number, the entry's position, and used after the call: a refusal keeps it
+unfoldable pub append_words : ℕ → Result (WalPosition × WalWriter) Refusal → List ℕ
+append_words used (Ok (p, w)) = 0 ∷ p.0 ∷ w.used ∷ []
+append_words used (Err r) = number r ∷ 0 ∷ used ∷ []
 
 -- position, tag, the payload's length, and the checksum
 unfoldable pub entry_words : WalEntry → List ℕ
 entry_words e = e.position.0 ∷ e.tag ∷ e.len ∷ e.checksum ∷ []
 
--- of a read
-unfoldable pub read_number : Found → ℕ
-read_number (Found-as-Entry e) = 0
-read_number (Found-as-Refused n) = n
+-- of a read: the number, and the entry
+unfoldable pub read_words : Result WalEntry Refusal → List ℕ
+read_words (Ok e) = 0 ∷ entry_words e
+read_words (Err r) = number r ∷ 0 ∷ 0 ∷ 0 ∷ 0 ∷ []
 
--- the number, and the entry
-unfoldable pub read_words : Found → List ℕ
-read_words (Found-as-Entry e) = 0 ∷ entry_words e
-read_words (Found-as-Refused n) = n ∷ 0 ∷ 0 ∷ 0 ∷ 0 ∷ []
+abbrev pub Reads : Result WalEntry Refusal → ℕ → List ℕ → Type 0
+Reads x n a = Gives (number_of x) (read_words x) n a
 
-abbrev pub Reads : Found → ℕ → List ℕ → Type 0
-Reads x n a = Gives (read_number x) (read_words x) n a
+-- of a walk's step: the number, the kind, and the entry. The kind of an entry is 0, that of a stop one more than its word, that of a
+-- refusal 4. A refusal has the start of the entry concerned.
+unfoldable pub step_words : Result WalkStep RefusedAt → List ℕ
+step_words (Ok (Step-as-Entry e)) = 0 ∷ 0 ∷ entry_words e
+step_words (Ok (Step-as-Stopped w)) = 0 ∷ suc (stop_word w) ∷ 0 ∷ 0 ∷ 0 ∷ 0 ∷ []
+step_words (Err at) = number at.refusal ∷ 4 ∷ at.start.0 ∷ 0 ∷ 0 ∷ 0 ∷ []
 
--- of a walk's step
-unfoldable pub step_number : WalkStep → ℕ
-step_number (Step-as-Entry e) = 0
-step_number (Step-as-Stopped w) = 0
-step_number (Step-as-Refused n p) = n
-
--- the number, the kind, and the entry. The kind of an entry is 0, that of a stop one more than its word, that of a refusal 4. A refusal
--- has the start of the entry concerned.
-unfoldable pub step_words : WalkStep → List ℕ
-step_words (Step-as-Entry e) = 0 ∷ 0 ∷ entry_words e
-step_words (Step-as-Stopped w) = 0 ∷ suc (stop_word w) ∷ 0 ∷ 0 ∷ 0 ∷ 0 ∷ []
-step_words (Step-as-Refused n p) = n ∷ 4 ∷ p.0 ∷ 0 ∷ 0 ∷ 0 ∷ []
-
-abbrev pub Steps : WalkStep → ℕ → List ℕ → Type 0
-Steps x n a = Gives (step_number x) (step_words x) n a
+abbrev pub Steps : Result WalkStep RefusedAt → ℕ → List ℕ → Type 0
+Steps x n a = Gives (number_at x) (step_words x) n a
 
 -- ---- Records
 

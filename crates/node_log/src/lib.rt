@@ -4,30 +4,21 @@
 #![tactic(auto)]
 
 ghost use Rattle.std.specs.Prelude.{◌≡◌};
-ghost use Rattle.node_log.specs.Answers.{append_number, append_words, entry_words, Reads, Steps, DecodesBlock, DecodesReference};
+ghost use Rattle.node_log.specs.Answers.{append_words, entry_words, Reads, Steps, DecodesBlock, DecodesReference};
 
 use blocks::StatementBlock;
-use node_words::stop_word;
+use node_words::{number_at, stop_word};
+use refusal::{Refusal, number_of};
 use types::BlockReference;
-use wal::{Appended, Found, WalEntry, WalkStep};
-
-#[tactic(auto, unfolding(crate::specs::Answers::append_number))]
-pub fn append_number(found: Appended) -> u8
-    ensures { result ≡ append_number found }
-{
-    match found {
-        Appended::At(_, _) => 0,
-        Appended::Refused(number) => number,
-    }
-}
+use wal::{RefusedAt, WalEntry, WalPosition, WalWriter, WalkStep};
 
 #[tactic(auto, unfolding(crate::specs::Answers::append_words))]
-pub fn append_words(used: u64, found: Appended) -> [u64; 3]
+pub fn append_words(used: u64, found: Result<(WalPosition, WalWriter), Refusal>) -> [u64; 3]
     ensures { result ≡ append_words used found }
 {
     match found {
-        Appended::At(position, writer) => [0, position.0, writer.used],
-        Appended::Refused(number) => [u64::from(number), 0, used],
+        Ok((position, writer)) => [0, position.0, writer.used],
+        Err(refusal) => [u64::from(refusal.number()), 0, used],
     }
 }
 
@@ -40,43 +31,36 @@ fn entry_words(e: WalEntry) -> [u64; 4]
 }
 
 // Of a read.
-#[tactic(auto, unfolding(crate::specs::Answers::read_number, crate::specs::Answers::read_words, crate::specs::Answers::entry_words))]
-pub fn put_found(answer: &mut [u64; 5], found: Found) -> u8
+#[tactic(auto, unfolding(crate::specs::Answers::read_words, crate::specs::Answers::entry_words))]
+pub fn put_found(answer: &mut [u64; 5], found: Result<WalEntry, Refusal>) -> u8
     ensures { Reads found result answer.new }
 {
-    match found {
-        Found::Entry(e) => {
-            let [position, tag, len, checksum] = entry_words(e);
-            *answer = [0, position, tag, len, checksum];
-            0
+    *answer = match found {
+        Ok(entry) => {
+            let [position, tag, len, checksum] = entry_words(entry);
+            [0, position, tag, len, checksum]
         }
-        Found::Refused(number) => {
-            *answer = [u64::from(number), 0, 0, 0, 0];
-            number
-        }
-    }
+        Err(refusal) => [u64::from(refusal.number()), 0, 0, 0, 0],
+    };
+    number_of(&found)
 }
 
 // Of a walk's step.
-#[tactic(auto, using(node_words::proofs::Words::stop_small), unfolding(crate::specs::Answers::step_number, crate::specs::Answers::step_words, crate::specs::Answers::entry_words))]
-pub fn put_step(answer: &mut [u64; 6], step: WalkStep) -> u8
+#[tactic(auto, using(node_words::proofs::Words::stop_small), unfolding(crate::specs::Answers::step_words, crate::specs::Answers::entry_words))]
+pub fn put_step(answer: &mut [u64; 6], step: Result<WalkStep, RefusedAt>) -> u8
     ensures { Steps step result answer.new }
 {
-    match step {
-        WalkStep::Entry(e) => {
-            let [position, tag, len, checksum] = entry_words(e);
-            *answer = [0, 0, position, tag, len, checksum];
-            0
-        }
-        WalkStep::Stopped(stop) => {
-            *answer = [0, stop_word(stop) + 1, 0, 0, 0, 0];
-            0
-        }
-        WalkStep::Refused(number, start) => {
-            *answer = [u64::from(number), 4, start.0, 0, 0, 0];
-            number
-        }
-    }
+    *answer = match step {
+        Ok(found) => match found {
+            WalkStep::Entry(entry) => {
+                let [position, tag, len, checksum] = entry_words(entry);
+                [0, 0, position, tag, len, checksum]
+            }
+            WalkStep::Stopped(stop) => [0, stop_word(stop) + 1, 0, 0, 0, 0],
+        },
+        Err(at) => [u64::from(at.refusal.number()), 4, at.start.0, 0, 0, 0],
+    };
+    number_at(&step)
 }
 
 // Of a decoded block.

@@ -5,12 +5,14 @@ use Prim.Native.Nat.{ℕ, zero, suc, ◌+◌, ◌*◌, ◌/◌, ◌%◌, ◌^◌
 use native.Mathlib.Nat.{zero-add, suc-add, add-zero, pow-suc, mul_assoc, mul_comm, one-le-pow, pow-succ', mod-one, mul-add-div_right, div-eq_of_lt, mod-eq_of_lt}
 use native.Mathlib.Omega.{arith}
 use lib.Arith.{mod-mul}
-use lib.Dec.{lit<}
+use lib.Dec.{leb, lit<}
 use borrow.Author.Tests.{le-leb}
 use lib.ListN.{length, get_or, take}
 use lib.Seq.{take-length}
 use Rattle.laws.specs.Pick.{pick}
-use Rattle.std.specs.Prelude.{Option, Some, None}
+use Rattle.std.specs.Prelude.{Option, Some, None, Result, Ok, Err}
+use Rattle.refusal.specs.Refusals.{number, number_of}
+use Rattle.refusal.proofs.Numbers.{positive_number, number_most}
 use Rattle.laws.specs.Bytes.{bytes_at, AllBytes}
 use Rattle.laws.proofs.Written.{length_bytes_at, bytes_at_add}
 use Rattle.types.specs.declared.BlockReference.{BlockReference}
@@ -18,20 +20,19 @@ use Rattle.index.specs.Keys.{of_be, Digested, digest_words, key_words}
 use Rattle.laws.proofs.AllBytes.{bytes_part}
 use Rattle.index.proofs.BigEndian.{of_be_lt}
 use Rattle.wal.specs.declared.Walked.{Walked}
-use Rattle.wal.specs.declared.Walked.TheVariants.{Stopped, Refused}
-use Rattle.wal.specs.Answers.{walked_number}
+use Rattle.wal.specs.declared.RefusedAt.{RefusedAt}
 use Rattle.wal_position.specs.Checks.{unless}
-use Rattle.wal_position.proofs.Checks.{unless_passed}
+use Rattle.wal_position.proofs.Checks.{unless_passed, unless_refused, unless_number}
 use Rattle.wal_writer.specs.declared.WalWriter.{WalWriter}
 use Rattle.committee.specs.Committee.{committee_check}
+use Rattle.committee.proofs.Checks.{committee_tabled}
 use Rattle.replay.specs.Recovery.{Recovery}
 use Rattle.replay_log.specs.Answers.{recovered_of}
 use Rattle.recovered.specs.declared.Recovered.{Recovered}
-use Rattle.recovered.specs.declared.Resumed.TheVariants.{Writer}
 use Rattle.recovered.specs.Answers.{writer_behind, resumed_of}
-use Rattle.store.specs.Store.{open_number, opened_of}
+use Rattle.store.specs.Store.{opened_by, opened, opened_of}
 use Rattle.store.specs.declared.BlockStore.{BlockStore}
-use Rattle.node_words.specs.Words.{walked_words, span_words, found_words, head_words, summary_words, recovered_words}
+use Rattle.node_words.specs.Words.{walked_words, number_at, span_words, found_words, head_words, summary_words, recovered_words}
 use Rattle.node_store.specs.Stores.{store_words, words_at, be, flagged, digest_at, reference_at, reference_of, summary_in, store_of, recovery_number, resumed_used, opened_words, opened_number}
 use Rattle.node_store.proofs.Stores.{length_be}
 use Rattle.node_words.proofs.Words.{long_walked, long_head, long_span, long_found}
@@ -206,13 +207,13 @@ first_word e = ap (λ (l : List ℕ). get_or l 0 0) e
 
 -- the number, the index rows counted and the summary, among the words of recovery's answer
 module _ (r : Recovered) where
-  number_there : get_or (recovered_words r) 0 0 ≡ walked_number r.walked
-  unfolding recovered_words head_words walked_words walked_number
+  number_there : get_or (recovered_words r) 0 0 ≡ number_at r.walked
+  unfolding recovered_words head_words walked_words number_at
   number_there = by r.walked _ _
     where
-      by : (w : Walked) (counts rest : List ℕ) → get_or ((walked_words w ++ counts) ++ rest) 0 0 ≡ walked_number w
-      by (Stopped v e unread) counts rest = refl
-      by (Refused n p) counts rest = refl
+      by : (w : Result Walked RefusedAt) (counts rest : List ℕ) → get_or ((walked_words w ++ counts) ++ rest) 0 0 ≡ number_at w
+      by (Ok w) counts rest = refl
+      by (Err at) counts rest = refl
 
   index_there : get_or (recovered_words r) 8 0 ≡ r.replay.blocks.index
   unfolding recovered_words head_words words_at
@@ -241,27 +242,38 @@ unfolding opened_words opened_of store_words
 opened_store size own r rounds = λ i. size ∷ own ∷ index_there r i ∷ 0 ∷ summary_there r rounds i
 
 -- what `kadzhomir_open` and `kadzhomir_writer` make of the words is what `BlockStore::open` and `Recovered::writer` make of the answer
-module _ (r : Recovered) (h : walked_number r.walked ≤ 19) where
-  number_told : recovery_number (recovered_words r) ≡ walked_number r.walked
-  unfolding recovery_number pick
-  number_told = rw (number_there r, le-leb (walked_number r.walked) 19 h)
+module _ (r : Recovered) where
+  number_told : recovery_number (recovered_words r) ≡ number_at r.walked
+  unfolding recovery_number number_at pick
+  number_told = by r.walked (number_there r)
+    where
+      by : (w : Result Walked RefusedAt) {v : ℕ} → v ≡ number_at w → pick (leb v 19) v 18 ≡ number_at w
+      by (Ok w) e = rw e refl
+      by (Err at) e = rw (e, le-leb (number at.refusal) 19 (number_most at.refusal)) refl
 
-  pub opened_number_lem : (size own : ℕ) → opened_number size own (recovered_words r) ≡ open_number r.walked size own
-  unfolding opened_number open_number
-  opened_number_lem size own = ap (λ (n : ℕ). unless n (λ m. m) (committee_check size own)) number_told
+  pub opened_number_lem : (size own : ℕ) → opened_number size own (recovered_words r) ≡ number_of (opened size own r)
+  unfolding opened_number opened_by number_at number_of
+  opened_number_lem size own =
+      ap (λ (n : ℕ). unless n (λ m. m) (committee_check size own)) number_told ∙ by r.walked
+    where
+      by : (w : Result Walked RefusedAt) → unless (number_at w) (λ m. m) (committee_check size own) ≡ number_of (opened_by size own w r.replay)
+      by (Ok w) =
+          unless_passed (λ (m : ℕ). m) (committee_check size own) 0 refl
+          ∙ sym (unless_number (committee_check size own) (opened_of size own r.replay) (committee_tabled size own))
+      by (Err at) = unless_refused (λ (m : ℕ). m) (committee_check size own) (number at.refusal) (λ z. omega (arith, z, positive_number at.refusal))
 
-  pub resumed_used_lem : (k used : ℕ) {w : WalWriter} → resumed_of k r ≡ Writer w → resumed_used (recovered_words r) used ≡ w.used
-  unfolding resumed_used recovered_words head_words walked_words walked_number writer_behind
+  pub resumed_used_lem : (k used : ℕ) {w : WalWriter} → resumed_of k r ≡ Ok w → resumed_used (recovered_words r) used ≡ w.used
+  unfolding resumed_used recovered_words head_words walked_words number_at writer_behind
   resumed_used_lem k used {w} is =
       ap (λ (n : ℕ). unless n (λ m. used) (get_or (recovered_words r) 3 0)) number_told
       ∙ by r.walked _ _ is
     where
-      by : (v : Walked) (counts rest : List ℕ) → writer_behind k v ≡ Writer w
-          → unless (walked_number v) (λ m. used) (get_or ((walked_words v ++ counts) ++ rest) 3 0) ≡ w.used
-      by (Stopped v e unread) counts rest is =
-          let same : record { exponent = k; used = e.0 } ≡ w = cc in
-          unless_passed (λ (m : ℕ). used) e.0 0 refl ∙ ap (λ (x : WalWriter). x.used) same
-      by (Refused n p) counts rest is = absurd (let z : ◌≡◌ {A = ℕ} 0 1 = cc in omega arith)
+      by : (v : Result Walked RefusedAt) (counts rest : List ℕ) → writer_behind k v ≡ Ok w
+          → unless (number_at v) (λ m. used) (get_or ((walked_words v ++ counts) ++ rest) 3 0) ≡ w.used
+      by (Ok v) counts rest is =
+          let same : record { exponent = k; used = v.end.0 } ≡ w = cc in
+          unless_passed (λ (m : ℕ). used) v.end.0 0 refl ∙ ap (λ (x : WalWriter). x.used) same
+      by (Err at) counts rest is = absurd (cc)
 
 -- `kadzhomir_open` after `kadzhomir_recover`
 pub opened_recovered : (size used own : ℕ) (x : Recovery)

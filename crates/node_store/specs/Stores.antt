@@ -1,11 +1,13 @@
 -- The words of a store, which a caller keeps between calls, and the store and the reference that words stand for.
-use Rattle.std.specs.Prelude.{Bool, not, List, [], ◌∷◌, ◌++◌, ℕ, zero, suc, ◌+◌, ◌/◌, ◌%◌, ◌^◌, leb, eqb, get_or, Some, None}
+use Rattle.std.specs.Prelude.{Bool, not, List, [], ◌∷◌, ◌++◌, ℕ, zero, suc, ◌+◌, ◌/◌, ◌%◌, ◌^◌, leb, eqb, get_or, Option, Some, None}
 use Rattle.laws.specs.Pick.{pick}
 use Rattle.wal_position.specs.Checks.{unless}
 use Rattle.committee.specs.Committee.{committee_check}
 use Rattle.types.specs.declared.BlockReference.{BlockReference}
 use Rattle.index.specs.declared.StoreSummary.{StoreSummary}
+use Rattle.std.specs.Borrow.{Bor}
 use Rattle.store.specs.declared.BlockStore.{BlockStore}
+use Rattle.store.specs.declared.StoreView.{StoreView}
 use Rattle.node_words.specs.Words.{summary_words}
 
 -- 140 words: the committee's size, the own authority, the index rows counted, the loads, and the summary
@@ -58,11 +60,17 @@ store_of w =
       summary = summary_in w;
     }
 
+-- the same with the log and the index rows that a call is lent
+abbrev pub viewed : ℕ → Bor (List ℕ) → ℕ → List ℕ → Bor (List ℕ) → StoreView
+viewed k image used w index =
+    record { log = record { exponent = k; image = image; used = used }; store = store_of w; index = index }
+
 -- ---- The words that a call leaves
 
--- after a call that answers the number n and leaves the store s: a refused one changes no word
-unfoldable pub store_after : ℕ → List ℕ → BlockStore → List ℕ
-store_after n w s = unless n (λ m. w) (store_words s)
+-- after a call that leaves a store, and after one that leaves none, since it is refused: that one changes no word
+unfoldable pub store_after : List ℕ → Option BlockStore → List ℕ
+store_after w None = w
+store_after w (Some s) = store_words s
 
 -- ---- What a recovery's answer leaves
 

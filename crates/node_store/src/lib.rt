@@ -6,12 +6,14 @@
 ghost use Rattle.std.specs.Prelude.{◌≡◌, ◌+◌, ◌≤◌, get_or};
 ghost use Rattle.laws.specs.Bytes.{written};
 ghost use Rattle.text.specs.Clipped.{clipped};
-ghost use Rattle.node_store.specs.Stores.{be, words_at, digest_at, reference_at, summary_in, store_of, store_words, store_after, recovery_number, resumed_used, opened_number, opened_words, opened_after};
+ghost use Rattle.node_store.specs.Stores.{be, viewed, words_at, digest_at, reference_at, summary_in, store_of, store_words, store_after, recovery_number, resumed_used, opened_number, opened_words, opened_after};
 
 use crypto::BlockDigest;
 use index::StoreSummary;
-use store::BlockStore;
+use refusal::number_of;
+use store::{BlockStore, StoreView};
 use types::BlockReference;
+use wal_position::Log;
 
 // Word i of those from index at on, or 0 where there is none.
 fn word_at(words: &[u64], at: usize, i: usize) -> u64
@@ -94,6 +96,27 @@ pub fn store_of(words: &[u64; 140]) -> BlockStore
     }
 }
 
+// The store in a store's words, with the log and the index rows that a call is lent beside them.
+pub fn view_of<'a>(
+    k: u64,
+    image: &'a [u8],
+    used: u64,
+    words: &[u64; 140],
+    index: &'a [u64],
+) -> StoreView<'a>
+    ensures { result ≡ viewed k image.entry used words.now index.entry }
+{
+    StoreView {
+        log: Log {
+            exponent: k,
+            image,
+            used,
+        },
+        store: store_of(words),
+        index,
+    }
+}
+
 fn put_store(out: &mut [u64], s: BlockStore)
     ensures { out.new ≡ clipped out.old 0 (store_words s) }
 {
@@ -102,14 +125,14 @@ fn put_store(out: &mut [u64], s: BlockStore)
     node_words::put_summary(out, 4, s.summary);
 }
 
-// Puts the store that a call leaves; a refused one leaves the words as they are.
-pub fn keep_store(out: &mut [u64; 140], number: u8, s: BlockStore)
-    ensures { out.new ≡ store_after number out.old s }
+// Puts the store that a call leaves; a refused one leaves none, and the words as they are.
+#[tactic(auto, unfolding(crate::specs::Stores::store_after))]
+pub fn keep_store(out: &mut [u64; 140], kept: Option<BlockStore>)
+    ensures { out.new ≡ store_after out.old kept }
 {
-    if number != 0 {
-        return;
+    if let Some(store) = kept {
+        put_store(out, store);
     }
-    put_store(out, s);
 }
 
 // The number in the words of a recovery's answer. A word that is no number of a refusal comes from no
@@ -132,7 +155,7 @@ fn open_number(size: u64, own: u64, recovered: &[u64; 161]) -> u8
     if refusal != 0 {
         return refusal;
     }
-    committee::check_committee(size, own)
+    number_of(&committee::check_committee(size, own))
 }
 
 // Stores E, where the writer goes on; a refused recovery leaves `used` as it is.

@@ -9,7 +9,7 @@ use Rattle.index.specs.declared.StoreSummary.{StoreSummary}
 use Rattle.index.specs.Summary.{empty_summary}
 use Rattle.state.specs.Tables.{last_seen_from, summary_of, blocks_of, replay_of, empty_replay}
 use Rattle.recovered.specs.declared.Recovered.{Recovered}
-use Rattle.recovered.specs.Answers.{refused_answer}
+use Rattle.recovered.specs.Answers.{refused_with}
 use Rattle.replay_log.specs.Answers.{recovered_of}
 use Rattle.node_words.specs.Words.{span_words, found_words, head_words, summary_words, recovered_words}
 use Rattle.node_words.proofs.Words.{long_head, long_span, long_found}
@@ -38,7 +38,7 @@ last_seen_long a (suc n) l = ap suc (last_seen_long (suc a) n l)
 
 -- the last seen rounds are 128
 pub rounds_long_lem : (used own : ℕ) (x : Recovery) → length (recovered_of used own x).replay.blocks.summary.last_seen_by_authority ≡ 128
-unfolding recovered_of refused_answer empty_replay empty_summary replay_of blocks_of summary_of
+unfolding recovered_of refused_with empty_replay empty_summary replay_of blocks_of summary_of
 rounds_long_lem used own (refused n p) = length-replicate {A = ℕ} 128 0
 rounds_long_lem used own (recovered w e l) = last_seen_long 0 128 l
 

@@ -8,7 +8,7 @@ use native.Mathlib.Nat.{add_assoc}
 use native.Mathlib.Omega.{arith}
 use lib.Dec.{lit≤}
 use lib.ListN.{length, drop_of_length-le, length-append}
-use Rattle.std.specs.Prelude.{Option, Some, None}
+use Rattle.std.specs.Prelude.{Option, Some, None, Result, Ok, Err}
 use Rattle.bincode.specs.declared.Cursor.{Cursor}
 use Rattle.types.specs.declared.BlockReference.{BlockReference}
 use Rattle.text.specs.Clipped.{clipped}
@@ -16,7 +16,7 @@ use Rattle.text.proofs.Clipped.{clipped_fits, then_clipped}
 use Rattle.wal.specs.declared.Stop.{Stop}
 use Rattle.wal.specs.declared.Stop.TheVariants.{End, Zeros, Torn}
 use Rattle.wal.specs.declared.Walked.{Walked}
-use Rattle.wal.specs.declared.Walked.TheVariants.{Stopped, Refused}
+use Rattle.wal.specs.declared.RefusedAt.{RefusedAt}
 use Rattle.index.specs.Keys.{key_words, digest_words}
 use Rattle.index.specs.declared.StoreSummary.{StoreSummary}
 use Rattle.recovered.specs.declared.Recovered.{Recovered}
@@ -46,10 +46,10 @@ over_all s v h =
     clipped_fits s 0 v (omega (arith, h)) ∙ ap (λ (l : List ℕ). v ++ l) (drop_of_length-le s {i = 0 + length v} (omega (arith, h))) ∙ append-nil v
 
 -- how many words each part has
-pub long_walked : (w : Walked) → length (walked_words w) ≡ 5
+pub long_walked : (w : Result Walked RefusedAt) → length (walked_words w) ≡ 5
 unfolding walked_words
-long_walked (Stopped w e unread) = refl
-long_walked (Refused n p) = refl
+long_walked (Ok w) = refl
+long_walked (Err at) = refl
 
 pub long_head : (r : Recovered) → length (head_words r) ≡ 9
 unfolding head_words

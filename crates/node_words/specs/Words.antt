@@ -1,9 +1,10 @@
 -- An answer as words, in the order in which a call writes them. What is missing is zeros.
-use Rattle.std.specs.Prelude.{Bool, true, false, Option, Some, None, List, [], ◌∷◌, ◌++◌, ℕ, replicate}
+use Rattle.std.specs.Prelude.{Bool, true, false, Option, Some, None, List, [], ◌∷◌, ◌++◌, ℕ, replicate, Result, Ok, Err}
+use Rattle.refusal.specs.Refusals.{number}
 use Rattle.wal.specs.declared.Stop.{Stop}
 use Rattle.wal.specs.declared.Stop.TheVariants.{End, Zeros, Torn}
 use Rattle.wal.specs.declared.Walked.{Walked}
-use Rattle.wal.specs.declared.Walked.TheVariants.{Stopped, Refused}
+use Rattle.wal.specs.declared.RefusedAt.{RefusedAt}
 use Rattle.bincode.specs.declared.Cursor.{Cursor}
 use Rattle.types.specs.declared.BlockReference.{BlockReference}
 use Rattle.index.specs.Keys.{key_words}
@@ -21,9 +22,14 @@ stop_word Zeros = 1
 stop_word Torn = 2
 
 -- five words: the number, the start of the entry concerned, the stop code, E and the unread count
-unfoldable pub walked_words : Walked → List ℕ
-walked_words (Stopped w e unread) = 0 ∷ 0 ∷ stop_word w ∷ e.0 ∷ unread ∷ []
-walked_words (Refused n p) = n ∷ p.0 ∷ 3 ∷ 0 ∷ 0 ∷ []
+unfoldable pub walked_words : Result Walked RefusedAt → List ℕ
+walked_words (Ok w) = 0 ∷ 0 ∷ stop_word w.stop ∷ w.end.0 ∷ w.unread ∷ []
+walked_words (Err at) = number at.refusal ∷ at.start.0 ∷ 3 ∷ 0 ∷ 0 ∷ []
+
+-- the number of a walk's answer: 0 where it is not refused
+unfoldable pub number_at : {A : Type 0} → Result A RefusedAt → ℕ
+number_at (Ok x) = 0
+number_at (Err at) = number at.refusal
 
 -- three words: whether there are bytes, where they begin, and how many they are
 unfoldable pub span_words : Option Cursor → List ℕ

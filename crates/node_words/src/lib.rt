@@ -3,13 +3,13 @@
 
 ghost use Rattle.std.specs.Prelude.{◌≡◌, ◌≤◌, length};
 ghost use Rattle.text.specs.Clipped.{clipped};
-ghost use Rattle.node_words.specs.Words.{stop_word, walked_words, span_words, found_words, head_words, summary_words, recovered_words};
+ghost use Rattle.node_words.specs.Words.{stop_word, walked_words, number_at, span_words, found_words, head_words, summary_words, recovered_words};
 
 use bincode::Cursor;
 use index::StoreSummary;
 use recovered::Recovered;
 use types::BlockReference;
-use wal::{Stop, Walked};
+use wal::{RefusedAt, Stop, Walked};
 
 // Puts words from index at on, as far as out reaches.
 pub fn put_words(out: &mut [u64], at: usize, words: &[u64])
@@ -36,15 +36,23 @@ pub fn stop_word(stop: Stop) -> u64
 
 // A walk's answer: the number, the start of the entry concerned, the stop code, E and the unread count.
 #[tactic(auto, unfolding(crate::specs::Words::walked_words))]
-pub fn walk_words(walked: Walked) -> [u64; 5]
+pub fn walk_words(walked: Result<Walked, RefusedAt>) -> [u64; 5]
     ensures { result ≡ walked_words walked }
 {
     match walked {
-        Walked::Stopped(stop, e, unread) => {
-            let word = stop_word(stop);
-            [0, 0, word, e.0, unread]
-        }
-        Walked::Refused(number, start) => [u64::from(number), start.0, 3, 0, 0],
+        Ok(walk) => [0, 0, stop_word(walk.stop), walk.end.0, walk.unread],
+        Err(at) => [u64::from(at.refusal.number()), at.start.0, 3, 0, 0],
+    }
+}
+
+// The number that a walk answers: 0 where it is not refused.
+#[tactic(auto, unfolding(crate::specs::Words::number_at))]
+pub fn number_at<T>(answer: &Result<T, RefusedAt>) -> u8
+    ensures { result ≡ number_at answer.now }
+{
+    match answer {
+        Ok(_) => 0,
+        Err(at) => at.refusal.number(),
     }
 }
 

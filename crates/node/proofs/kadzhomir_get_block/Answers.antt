@@ -3,5 +3,5 @@ use Rattle.node.proofs.kadzhomir_get_block.Goals as goal
 
 pub returns : goal.returns
 returns c =
-    let lookup = rw (c.store_of-s.ensures, c.reference_at-x.ensures) at c.get_block-r.ensures in
+    let lookup = rw (c.view_of-view.ensures, c.reference_at-x.ensures) at c.get_block-r.ensures in
     record { gives = rw lookup.answer at c.put_looked.ensures; rows = lookup.words }

@@ -3,5 +3,5 @@ use Rattle.node.proofs.kadzhomir_get_blocks_by_round.Goals as goal
 
 pub returns : goal.returns
 returns c =
-    let lookup = rw c.store_of-s.ensures at c.get_blocks_by_round-r.ensures in
+    let lookup = rw c.view_of-view.ensures at c.get_blocks_by_round-r.ensures in
     record { gives = rw lookup.answer at c.put_looked.ensures; rows = lookup.words }

@@ -5,6 +5,6 @@ pub returns : goal.returns
 returns c =
     let linked = c.linked-r.ensures in
     record {
-      links = rw (linked.value, c.reference_at-x.ensures, c.store_of-s.ensures) at c.put_linked.ensures;
+      links = rw (linked.value, c.reference_at-x.ensures, c.view_of-view.ensures) at c.put_linked.ensures;
       work_after = linked.work_after;
     }

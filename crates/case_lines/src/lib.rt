@@ -2,13 +2,14 @@
 // output, and checksums over words, so that a line can speak of a whole table.
 #![tactic(auto)]
 
-ghost use Rattle.std.specs.Prelude.{◌≡◌, ◌≤◌, length, get_or, IfOk};
+ghost use Rattle.std.specs.Prelude.{◌≡◌, ◌≤◌, length, IfOk};
 ghost use Rattle.laws.specs.Bytes.{le};
 ghost use Rattle.laws.specs.Parse.{joined};
 ghost use Rattle.checksum.specs.Crc32.{feed};
 ghost use Rattle.case_lines.specs.Cases.{sum_of, part_of, number_at, behind_of, bytes_of, found_reference_bytes};
 
 use bincode::{Cursor, Decode};
+use refusal::Refusal;
 use std::io;
 use std::io::Read;
 use types::BlockReference;
@@ -57,13 +58,6 @@ pub fn number_at(s: &[u8], at: usize) -> u64
         Some((n, _)) => n,
         None => 0,
     }
-}
-
-// The word at `at`, 0 where there is none.
-pub fn word_at(t: &[u64], at: usize) -> u64
-    ensures { result ≡ get_or t.now at 0 }
-{
-    t.get(at).copied().unwrap_or(0)
 }
 
 // The place behind the bytes whose length stands at `at`.
@@ -140,8 +134,9 @@ pub fn stop_word(rt: &impl Print, stop: Stop) -> io::Result<()> {
     }
 }
 
-pub fn refused(rt: &impl Print, n: u8) -> io::Result<()> {
-    print!(rt; " REFUSED {n}")
+pub fn refused(rt: &impl Print, refusal: Refusal) -> io::Result<()> {
+    let number = refusal.number();
+    print!(rt; " REFUSED {number}")
 }
 
 // Whether bytes are there, where they begin, how many they are, and their checksum.

@@ -13,8 +13,10 @@
 // `recovery_page` of the image that they are.
 #![tactic(auto)]
 
-use case_lines::{behind, blank, bytes_at, end_line, feed_table, hex, number, number_at, plus};
+use case_lines::{behind, bytes_at, end_line, feed_table, hex, number, number_at, plus};
+use refusal::number_of;
 use std::io;
+use wal_position::Log;
 
 // The longest text of an input.
 const TEXT: usize = 309301;
@@ -28,7 +30,7 @@ pub struct Call {
     pub form: u64,
     pub shown: u64,
     pub room: u64,
-    pub k: u64,
+    pub exponent: u64,
     pub used: u64,
     pub size: u64,
     pub own: u64,
@@ -87,10 +89,13 @@ fn ask_recovery(
     index: &mut [u64],
     out: &mut [u8],
 ) -> io::Result<()> {
-    let r = page::recovery_page(
-        call.k,
+    let log = Log {
+        exponent: call.exponent,
         image,
-        call.used,
+        used: call.used,
+    };
+    let page = page::recovery_page(
+        &log,
         call.size,
         call.own,
         pending,
@@ -99,68 +104,39 @@ fn ask_recovery(
         index,
         out,
     );
-    number(rt, u64::from(r.number))?;
-    show_length(rt, r.length, out)?;
+    number(rt, u64::from(number_of(&page.recovered)))?;
+    show_length(rt, page.length, out)?;
     show_tables(rt, pending, unprocessed, committed, index)?;
-    show_text(rt, call.shown, r.length, out)
+    show_text(rt, call.shown, page.length, out)
 }
 
 // Lends the tables, each as long as the case says.
-fn lend_tables(
-    rt: &impl Print,
-    call: Call,
-    image: &[u8],
-    pending: &mut [u64],
-    unprocessed: &mut [u64],
-    committed: &mut [u64],
-    index: &mut [u64],
-    out: &mut [u8],
-) -> io::Result<()> {
-    let p = pending.len().min(call.pending as usize);
-    let u = unprocessed.len().min(call.unprocessed as usize);
-    let c = committed.len().min(call.committed as usize);
-    let i = index.len().min(call.index as usize);
-    ask_recovery(
-        rt,
-        call,
-        image,
-        &mut pending[..p],
-        &mut unprocessed[..u],
-        &mut committed[..c],
-        &mut index[..i],
-        out,
-    )
-}
-
 fn run_recovery(rt: &impl Print, call: Call, image: &[u8], out: &mut [u8]) -> io::Result<()> {
     let mut pending = [7u64; WORDS];
     let mut unprocessed = [7u64; WORDS];
     let mut committed = [7u64; WORDS];
     let mut index = [7u64; WORDS];
-    lend_tables(
+    ask_recovery(
         rt,
         call,
         image,
-        &mut pending,
-        &mut unprocessed,
-        &mut committed,
-        &mut index,
+        &mut pending[..WORDS.min(call.pending as usize)],
+        &mut unprocessed[..WORDS.min(call.unprocessed as usize)],
+        &mut committed[..WORDS.min(call.committed as usize)],
+        &mut index[..WORDS.min(call.index as usize)],
         out,
     )
 }
 
-fn run(rt: &impl Print, call: Call, bytes: &[u8], out: &mut [u8]) -> io::Result<()> {
+// Lends the buffer, as long as the case says.
+fn run(rt: &impl Print, call: Call, bytes: &[u8], text: &mut [u8]) -> io::Result<()> {
+    let n = text.len().min(call.room as usize);
+    let out = &mut text[..n];
     if call.form == 0 {
         ask_input(rt, call, bytes, out)
     } else {
         run_recovery(rt, call, bytes, out)
     }
-}
-
-// Lends the buffer, as long as the case says.
-fn lend_buffer(rt: &impl Print, call: Call, bytes: &[u8], text: &mut [u8]) -> io::Result<()> {
-    let n = text.len().min(call.room as usize);
-    run(rt, call, bytes, &mut text[..n])
 }
 
 // ---- The cases
@@ -170,7 +146,7 @@ fn call_at(s: &[u8], at: usize) -> Call {
         form: number_at(s, at),
         shown: number_at(s, plus(at, 8)),
         room: number_at(s, plus(at, 16)),
-        k: number_at(s, plus(at, 24)),
+        exponent: number_at(s, plus(at, 24)),
         used: number_at(s, plus(at, 32)),
         size: number_at(s, plus(at, 40)),
         own: number_at(s, plus(at, 48)),
@@ -188,7 +164,7 @@ fn show_case(rt: &impl Print, s: &[u8], at: usize) -> io::Result<usize> {
     rt.write_all(bytes_at(s, name))?;
     print!(rt; ":")?;
     let mut text = [7u8; TEXT];
-    lend_buffer(rt, call_at(s, at), bytes_at(s, bytes), &mut text)?;
+    run(rt, call_at(s, at), bytes_at(s, bytes), &mut text)?;
     Ok(behind(s, bytes))
 }
 

@@ -8,16 +8,16 @@
 use case_lines::{blank, end_line, hex, number, part, refused, stop_word};
 use meta_statement::MetaStatement;
 use std::io;
-use wal::{Place, WalEntry, WalPosition, WalWriter, WalkStep};
+use wal::{Log, Refusal, WalEntry, WalPosition, WalWriter, WalkStep};
 use wal_iterator::Stepped;
 
 // ---- Writing a log
 
-fn show_place(rt: &impl Print, place: Place, used: u64) -> io::Result<()> {
+fn show_place(rt: &impl Print, place: Result<WalPosition, Refusal>, used: u64) -> io::Result<()> {
     print!(rt; "append")?;
     match place {
-        Place::Start(position) => number(rt, position.0)?,
-        Place::No(n) => refused(rt, n)?,
+        Ok(position) => number(rt, position.0)?,
+        Err(refusal) => refused(rt, refusal)?,
     }
     print!(rt; " used")?;
     number(rt, used)?;
@@ -173,27 +173,31 @@ fn show_step(rt: &impl Print, image: &[u8], stepped: Stepped) -> io::Result<()> 
     } = stepped;
     print!(rt; "next")?;
     match step {
-        WalkStep::Entry(entry) => show_entry(rt, image, entry, end),
-        WalkStep::Stopped(stop) => {
+        Ok(WalkStep::Entry(entry)) => show_entry(rt, image, entry, end),
+        Ok(WalkStep::Stopped(stop)) => {
             blank(rt)?;
             stop_word(rt, stop)?;
             show_end(rt, end)
         }
-        WalkStep::Refused(n, start) => {
-            refused(rt, n)?;
-            number(rt, start.0)?;
+        Err(at) => {
+            refused(rt, at.refusal)?;
+            number(rt, at.start.0)?;
             show_end(rt, end)
         }
     }
 }
 
 // The steps of an iterator from the log's start up to its stop or refusal, and E then.
-fn show_steps(rt: &impl Print, k: u64, image: &[u8], used: u64) -> io::Result<WalPosition> {
+fn show_steps(rt: &impl Print, log: &Log<'_>) -> io::Result<WalPosition> {
     let mut e = WalPosition(0);
     loop {
-        let stepped = wal_iterator::step_through(k, image, used, e);
-        show_step(rt, image, stepped)?;
-        let WalkStep::Entry(_) = stepped.step else {
+        let stepped = wal_iterator::step_through(log, e);
+        show_step(rt, log.image, stepped)?;
+        let step = match stepped.step {
+            Ok(step) => step,
+            Err(_) => return Ok(stepped.position),
+        };
+        let WalkStep::Entry(_) = step else {
             return Ok(stepped.position);
         };
         e = stepped.position;
@@ -206,8 +210,13 @@ fn show_log(rt: &impl Print, k: u64, image: &[u8], used: u64) -> io::Result<()> 
     number(rt, k)?;
     number(rt, used)?;
     end_line(rt)?;
-    let e = show_steps(rt, k, image, used)?;
-    show_step(rt, image, wal_iterator::step_through(k, image, used, e))
+    let log = Log {
+        exponent: k,
+        image,
+        used,
+    };
+    let e = show_steps(rt, &log)?;
+    show_step(rt, image, wal_iterator::step_through(&log, e))
 }
 
 // The log at some cuts, and with an exponent and a used that every call refuses.

@@ -59,8 +59,7 @@ fn block_again(s: &[u8], at: usize, out: &mut [u8]) -> Result<usize, EncodeError
         reference: block.reference,
         include_count: includes.left as u64,
         statement_count: statements.left as u64,
-        time_low: block.meta_creation_time_ns.low,
-        time_high: block.meta_creation_time_ns.high,
+        meta_creation_time_ns: block.meta_creation_time_ns,
         epoch_marker: block.epoch_marker,
         signature: block.signature,
     };

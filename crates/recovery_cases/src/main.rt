@@ -16,21 +16,20 @@
 use bincode::Cursor;
 use case_lines::{
     behind, bytes_at, end_line, feed_reference, feed_table, feed_word, hex, number, number_at,
-    plus, show_place, stop_word, word_at,
+    plus, show_place, stop_word,
 };
 use index::StoreSummary;
 use recovery::Recovered;
 use state::Replay;
 use std::io;
 use types::BlockReference;
-use wal::Walked;
-use wal_position::WalPosition;
+use wal::{Log, RefusedAt};
 
 // The arguments of a call, but for the image.
 #[derive(Clone, Copy)]
 pub struct Call {
     pub form: u64,
-    pub k: u64,
+    pub exponent: u64,
     pub used: u64,
     pub size: u64,
     pub own: u64,
@@ -111,27 +110,29 @@ fn show_table(rt: &impl Print, name: &[u8], t: &[u64], count: usize) -> io::Resu
 }
 
 // Position, kind, and the reference's round, authority and first word of the digest, or the length.
-fn show_pending_row(rt: &impl Print, row: &[u64]) -> io::Result<()> {
-    print!(rt; "{}", word_at(row, 0))?;
-    number(rt, word_at(row, 1))?;
-    number(rt, word_at(row, 2))?;
-    number(rt, word_at(row, 3))?;
-    hex(rt, word_at(row, 4), 16)?;
+fn show_pending_row(rt: &impl Print, row: &[u64; 8]) -> io::Result<()> {
+    let [position, kind, round, authority, first, ..] = *row;
+    print!(rt; "{position}")?;
+    number(rt, kind)?;
+    number(rt, round)?;
+    number(rt, authority)?;
+    hex(rt, first, 16)?;
     end_line(rt)
 }
 
 // Round, authority, first word of the digest, position.
-fn show_block_row(rt: &impl Print, row: &[u64]) -> io::Result<()> {
-    print!(rt; "{}", word_at(row, 0))?;
-    number(rt, word_at(row, 1))?;
-    hex(rt, word_at(row, 2), 16)?;
-    number(rt, word_at(row, 6))?;
+fn show_block_row(rt: &impl Print, row: &[u64; 8]) -> io::Result<()> {
+    let [round, authority, first, _, _, _, position, _] = *row;
+    print!(rt; "{round}")?;
+    number(rt, authority)?;
+    hex(rt, first, 16)?;
+    number(rt, position)?;
     end_line(rt)
 }
 
 fn show_pending(rt: &impl Print, t: &[u64], count: usize) -> io::Result<()> {
     show_table(rt, b"pending", t, count)?;
-    for row in t.chunks_exact(8).take(count) {
+    for row in t.as_chunks().0.iter().take(count) {
         show_pending_row(rt, row)?;
     }
     Ok(())
@@ -139,7 +140,7 @@ fn show_pending(rt: &impl Print, t: &[u64], count: usize) -> io::Result<()> {
 
 fn show_blocks(rt: &impl Print, name: &[u8], t: &[u64], count: usize) -> io::Result<()> {
     show_table(rt, name, t, count)?;
-    for row in t.chunks_exact(8).take(count) {
+    for row in t.as_chunks().0.iter().take(count) {
         show_block_row(rt, row)?;
     }
     Ok(())
@@ -201,14 +202,9 @@ fn count_words(tables: Tables) -> u64 {
     count
 }
 
-fn show_refusal(
-    rt: &impl Print,
-    refusal: u8,
-    start: WalPosition,
-    tables: Tables,
-) -> io::Result<()> {
-    print!(rt; "REFUSED {refusal}")?;
-    number(rt, start.0)?;
+fn show_refusal(rt: &impl Print, at: RefusedAt, tables: Tables) -> io::Result<()> {
+    print!(rt; "REFUSED {}", at.refusal.number())?;
+    number(rt, at.start.0)?;
     number(rt, count_words(tables))?;
     end_line(rt)
 }
@@ -230,13 +226,13 @@ fn show_state(
 
 fn show(rt: &impl Print, form: u64, image: &[u8], r: Recovered, tables: Tables) -> io::Result<()> {
     match r.walked {
-        Walked::Refused(refusal, start) => show_refusal(rt, refusal, start, tables),
-        Walked::Stopped(stop, end, unread) => {
-            stop_word(rt, stop)?;
-            number(rt, end.0)?;
-            number(rt, unread)?;
+        Ok(walked) => {
+            stop_word(rt, walked.stop)?;
+            number(rt, walked.end.0)?;
+            number(rt, walked.unread)?;
             show_state(rt, form, image, r.replay, tables)
         }
+        Err(at) => show_refusal(rt, at, tables),
     }
 }
 
@@ -251,10 +247,13 @@ fn ask(
     committed: &mut [u64],
     index: &mut [u64],
 ) -> io::Result<()> {
-    let r = recovery::recover(
-        call.k,
+    let log = Log {
+        exponent: call.exponent,
         image,
-        call.used,
+        used: call.used,
+    };
+    let r = recovery::recover(
+        &log,
         call.size,
         call.own,
         pending,
@@ -302,7 +301,7 @@ fn run_cuts(rt: &impl Print, call: Call, image: &[u8]) -> io::Result<()> {
 fn call_at(s: &[u8], at: usize) -> Call {
     Call {
         form: number_at(s, at),
-        k: number_at(s, plus(at, 8)),
+        exponent: number_at(s, plus(at, 8)),
         used: number_at(s, plus(at, 16)),
         size: number_at(s, plus(at, 24)),
         own: number_at(s, plus(at, 32)),

@@ -13,34 +13,84 @@
 // has them.
 #![tactic(auto)]
 
-ghost use Rattle.std.specs.Prelude.{◌≤◌};
-
 use bincode::Decode;
 use case_lines::{
     behind, bytes_at, end_line, feed_reference, feed_table, feed_word, hex, number, number_at,
-    plus, show_place, word_at,
+    plus, show_place,
 };
-use cleanup::Cleaned;
 use crypto::BlockDigest;
-use exists::Answer;
 use index::StoreSummary;
 use insert::Inserted;
+use linked::LinkedAnswer;
 use lookup::Looked;
+use refusal::{Refusal, number_of};
 use std::io;
-use store::BlockStore;
-use types::{BlockReference, TransactionLocator};
-use wal::WalWriter;
+use store::{BlockStore, StoreView};
+use transaction::FoundTransaction;
+use types::{AuthorityIndex, BlockReference, RoundNumber, TransactionLocator};
+use wal::{Log, WalPosition, WalWriter};
 
 // The log's exponent and length, and the store.
 #[derive(Clone, Copy)]
 pub struct Setting {
-    pub k: u64,
+    pub exponent: u64,
     pub used: u64,
     pub store: BlockStore,
 }
 
-fn with_store(t: Setting, store: BlockStore) -> Setting {
-    Setting { store, ..t }
+impl Setting {
+    fn log<'a>(self, image: &'a [u8]) -> Log<'a> {
+        Log {
+            exponent: self.exponent,
+            image,
+            used: self.used,
+        }
+    }
+
+    fn view<'a>(self, image: &'a [u8], index: &'a [u64]) -> StoreView<'a> {
+        StoreView {
+            log: self.log(image),
+            store: self.store,
+            index,
+        }
+    }
+}
+
+// A lookup, whose answer is a table of blocks, with the arguments of its call in their order.
+#[derive(Clone, Copy)]
+pub enum Lookup {
+    Block(BlockReference),
+    Round(RoundNumber),
+    AtAuthorityRound(AuthorityIndex, RoundNumber),
+    Own(RoundNumber, usize),
+    Others(RoundNumber, AuthorityIndex, usize),
+}
+
+// Another call that changes neither image nor index, with its arguments in their order.
+#[derive(Clone, Copy)]
+pub enum Question<'a> {
+    Transaction(TransactionLocator),
+    Linked(&'a [u8], BlockReference),
+    Exists(BlockReference),
+    ExistsAt(AuthorityIndex, RoundNumber),
+    AllExist(RoundNumber, Authorities),
+}
+
+// The first `count` of the words.
+#[derive(Clone, Copy)]
+pub struct Authorities {
+    pub count: usize,
+    pub words: [u64; 8],
+}
+
+// A call of a case. An insert has the tag and the payload.
+#[derive(Clone, Copy)]
+pub enum Call<'a> {
+    Open,
+    Insert(u64, &'a [u8]),
+    Cleanup(RoundNumber),
+    Look(Lookup),
+    Ask(Question<'a>),
 }
 
 // ---- Reading
@@ -59,363 +109,13 @@ fn reference_at(s: &[u8], at: usize) -> BlockReference {
 // The place behind the words whose number stands at `at`.
 fn behind_words(s: &[u8], at: usize) -> usize {
     let n = number_at(s, at) as usize;
-    plus(plus(at, 8), times_eight(n))
-}
-
-fn times_eight(n: usize) -> usize {
-    if n < 0x1000_0000_0000_0000 { 8 * n } else { n }
-}
-
-// ---- Writing
-
-fn text(rt: &impl Print, bytes: &[u8]) -> io::Result<()> {
-    rt.write_all(bytes)
-}
-
-fn show_table(rt: &impl Print, t: &[u64]) -> io::Result<()> {
-    hex(rt, !feed_table(0xffff_ffff, t) as u64, 8)
-}
-
-// The highest round, the last seen rounds and the own reference.
-fn show_summary(rt: &impl Print, s: StoreSummary) -> io::Result<()> {
-    let seen = s.last_seen_by_authority;
-    let one = feed_word(0xffff_ffff, s.highest_round);
-    let two = feed_table(one, &seen);
-    let three = feed_reference(two, s.last_own_block);
-    hex(rt, !three as u64, 8)
-}
-
-// Used, rows and loads, and checksums of the image, the index and the summary.
-fn show_setting(rt: &impl Print, t: Setting, image: &[u8], index: &[u64]) -> io::Result<()> {
-    let store = t.store;
-    number(rt, t.used)?;
-    number(rt, store.rows as u64)?;
-    number(rt, store.loads)?;
-    hex(rt, checksum::hash(image) as u64, 8)?;
-    show_table(rt, index)?;
-    show_summary(rt, store.summary)?;
-    end_line(rt)
-}
-
-// Round, authority, first word of the digest, and the place and the length of the block's bytes.
-fn show_row(rt: &impl Print, t: &[u64], at: usize) -> io::Result<()> {
-    print!(rt; "{}", word_at(t, at))?;
-    number(rt, word_at(t, plus(at, 1)))?;
-    hex(rt, word_at(t, plus(at, 2)), 16)?;
-    number(rt, word_at(t, plus(at, 6)))?;
-    number(rt, word_at(t, plus(at, 7)))?;
-    end_line(rt)
-}
-
-// Number, rows, loads and a checksum of the answer table; then the rows.
-fn show_looked(rt: &impl Print, r: Looked, out: &[u64]) -> io::Result<()> {
-    let s = r.store;
-    number(rt, r.number as u64)?;
-    number(rt, r.rows as u64)?;
-    number(rt, s.loads)?;
-    show_table(rt, out)?;
-    end_line(rt)?;
-    let mut at = 0;
-    for _ in 0..r.rows {
-        show_row(rt, out, at)?;
-        at = plus(at, 8);
-    }
-    Ok(())
-}
-
-fn show_answer(rt: &impl Print, a: Answer) -> io::Result<()> {
-    match a {
-        Answer::Yes => text(rt, b" YES")?,
-        Answer::No => text(rt, b" NO")?,
-        Answer::Refused(n) => number(rt, n as u64)?,
-    }
-    end_line(rt)
-}
-
-// ---- Calls that change the store
-
-fn do_open(rt: &impl Print, t: Setting, image: &[u8], index: &mut [u64]) -> io::Result<Setting> {
-    let mut pending = [7u64; 512];
-    let mut unprocessed = [7u64; 512];
-    let mut committed = [7u64; 512];
-    let size = t.store.committee_size;
-    let own = t.store.authority;
-    let r = recovery::recover(
-        t.k,
-        image,
-        t.used,
-        size,
-        own,
-        &mut pending,
-        &mut unprocessed,
-        &mut committed,
-        index,
-    );
-    let opened = BlockStore::open(size, own, r);
-    let now = with_store(t, opened.store);
-    text(rt, b"open")?;
-    number(rt, opened.number as u64)?;
-    show_setting(rt, now, image, index)?;
-    Ok(now)
-}
-
-fn insert(t: Setting, tag: u64, payload: &[u8], image: &mut [u8], index: &mut [u64]) -> Inserted {
-    let writer = WalWriter {
-        exponent: t.k,
-        used: t.used,
-    };
-    if tag == 3 {
-        return insert::insert_own_block(writer, image, t.store, index, payload);
-    }
-    insert::insert_block(writer, image, t.store, index, payload)
-}
-
-fn do_insert(
-    rt: &impl Print,
-    t: Setting,
-    tag: u64,
-    payload: &[u8],
-    image: &mut [u8],
-    index: &mut [u64],
-) -> io::Result<Setting> {
-    let r = insert(t, tag, payload, image, index);
-    let writer = r.writer;
-    let position = r.position;
-    let store = r.store;
-    let now = Setting {
-        k: t.k,
-        used: writer.used,
-        store,
-    };
-    text(rt, b"insert")?;
-    number(rt, r.number as u64)?;
-    number(rt, position.0)?;
-    show_setting(rt, now, image, index)?;
-    Ok(now)
-}
-
-fn do_cleanup(
-    rt: &impl Print,
-    t: Setting,
-    round: u64,
-    image: &[u8],
-    index: &mut [u64],
-) -> io::Result<()> {
-    let r = cleanup::cleanup(t.k, image, t.used, t.store, index, round);
-    text(rt, b"cleanup")?;
-    match r {
-        Cleaned::Unloaded(n) => {
-            text(rt, b" UNLOADED")?;
-            number(rt, n)?;
-        }
-        Cleaned::Refused(n) => number(rt, n as u64)?,
-    }
-    show_setting(rt, t, image, index)
-}
-
-// ---- Questions
-
-fn do_block_exists(
-    rt: &impl Print,
-    t: Setting,
-    reference: BlockReference,
-    image: &[u8],
-    index: &[u64],
-) -> io::Result<()> {
-    text(rt, b"block_exists")?;
-    show_answer(
-        rt,
-        exists::block_exists(t.k, image, t.used, t.store, index, reference),
-    )
-}
-
-fn do_exists_at(
-    rt: &impl Print,
-    t: Setting,
-    authority: u64,
-    round: u64,
-    image: &[u8],
-    index: &[u64],
-) -> io::Result<()> {
-    text(rt, b"block_exists_at_authority_round")?;
-    show_answer(
-        rt,
-        exists::block_exists_at_authority_round(
-            t.k, image, t.used, t.store, index, authority, round,
-        ),
-    )
-}
-
-fn do_all_exist(
-    rt: &impl Print,
-    t: Setting,
-    authorities: &[u64],
-    round: u64,
-    image: &[u8],
-    index: &[u64],
-) -> io::Result<()> {
-    text(rt, b"all_blocks_exists_at_authority_round")?;
-    show_answer(
-        rt,
-        exists::all_blocks_exists_at_authority_round(
-            t.k,
-            image,
-            t.used,
-            t.store,
-            index,
-            authorities,
-            round,
-        ),
-    )
-}
-
-// ---- Lookups
-
-fn loads_of(t: Setting) -> u64 {
-    let store = t.store;
-    store.loads
-}
-
-fn look(
-    t: Setting,
-    kind: u64,
-    s: &[u8],
-    at: usize,
-    image: &[u8],
-    index: &[u64],
-    out: &mut [u64],
-) -> Looked {
-    let one = number_at(s, at);
-    let two = number_at(s, plus(at, 8));
-    let three = number_at(s, plus(at, 16));
-    if kind == 4 {
-        let reference = reference_at(s, at);
-        return lookup::get_block(t.k, image, t.used, t.store, index, reference, out);
-    }
-    if kind == 5 {
-        return lookup::get_blocks_by_round(t.k, image, t.used, t.store, index, one, out);
-    }
-    if kind == 6 {
-        return lookup::get_blocks_at_authority_round(
-            t.k, image, t.used, t.store, index, one, two, out,
-        );
-    }
-    if kind == 7 {
-        return lookup_after::get_own_blocks(
-            t.k,
-            image,
-            t.used,
-            t.store,
-            index,
-            one,
-            two as usize,
-            out,
-        );
-    }
-    lookup_after::get_others_blocks(
-        t.k,
-        image,
-        t.used,
-        t.store,
-        index,
-        one,
-        two,
-        three as usize,
-        out,
-    )
-}
-
-fn show_kind(rt: &impl Print, kind: u64) -> io::Result<()> {
-    if kind == 4 {
-        return text(rt, b"get_block");
-    }
-    if kind == 5 {
-        return text(rt, b"get_blocks_by_round");
-    }
-    if kind == 6 {
-        return text(rt, b"get_blocks_at_authority_round");
-    }
-    if kind == 7 {
-        return text(rt, b"get_own_blocks");
-    }
-    text(rt, b"get_others_blocks")
-}
-
-fn do_look(
-    rt: &impl Print,
-    t: Setting,
-    kind: u64,
-    s: &[u8],
-    at: usize,
-    image: &[u8],
-    index: &[u64],
-    out: &mut [u64],
-) -> io::Result<Setting> {
-    let r = look(t, kind, s, at, image, index, out);
-    let now = with_store(t, r.store);
-    show_kind(rt, kind)?;
-    show_looked(rt, r, out)?;
-    Ok(now)
-}
-
-fn do_transaction(
-    rt: &impl Print,
-    t: Setting,
-    s: &[u8],
-    at: usize,
-    image: &[u8],
-    index: &[u64],
-) -> io::Result<Setting> {
-    let locator = TransactionLocator {
-        block: reference_at(s, at),
-        offset: number_at(s, plus(at, 56)),
-    };
-    let r = transaction::get_transaction(t.k, image, t.used, t.store, index, locator);
-    let now = with_store(t, r.store);
-    text(rt, b"get_transaction")?;
-    number(rt, r.number as u64)?;
-    show_place(rt, image, r.share)?;
-    number(rt, loads_of(now))?;
-    end_line(rt)?;
-    Ok(now)
-}
-
-fn do_linked(
-    rt: &impl Print,
-    t: Setting,
-    later: &[u8],
-    earlier: BlockReference,
-    image: &[u8],
-    index: &[u64],
-    work: &mut [u64],
-) -> io::Result<Setting> {
-    let r = linked::linked(t.k, image, t.used, t.store, index, later, earlier, work);
-    let now = with_store(t, r.store);
-    text(rt, b"linked")?;
-    number(rt, r.number as u64)?;
-    number(rt, r.linked as u64)?;
-    number(rt, loads_of(now))?;
-    show_table(rt, work)?;
-    end_line(rt)?;
-    Ok(now)
-}
-
-// ---- The cases
-
-// A setting, and where the next call stands.
-#[derive(Clone, Copy)]
-pub struct Step {
-    pub setting: Setting,
-    pub at: usize,
+    plus(plus(at, 8), n.saturating_mul(8))
 }
 
 fn load_words(s: &[u8], at: usize, t: &mut [u64]) {
-    let n = number_at(s, at);
+    let n = number_at(s, at) as usize;
     let mut place = plus(at, 8);
-    for (i, word) in t.iter_mut().enumerate() {
-        if n <= i as u64 {
-            return;
-        }
+    for word in t.iter_mut().take(n) {
         *word = number_at(s, place);
         place = plus(place, 8);
     }
@@ -427,177 +127,362 @@ fn load_bytes(bytes: &[u8], image: &mut [u8]) {
     }
 }
 
-// A call that changes index or image.
-fn change(
-    rt: &impl Print,
-    t: Setting,
-    kind: u64,
-    s: &[u8],
-    at: usize,
-    image: &mut [u8],
-    index: &mut [u64],
-) -> io::Result<Step> {
-    if kind == 1 {
-        return Ok(Step {
-            setting: do_open(rt, t, image, index)?,
-            at,
-        });
+// The authorities whose number stands at `at`, up to eight of them.
+fn authorities_at(s: &[u8], at: usize) -> Authorities {
+    let mut words = [0u64; 8];
+    load_words(s, at, &mut words);
+    Authorities {
+        count: number_at(s, at) as usize,
+        words,
     }
-    if kind == 2 {
-        let payload = plus(at, 8);
-        return Ok(Step {
-            setting: do_insert(rt, t, number_at(s, at), bytes_at(s, payload), image, index)?,
-            at: behind(s, payload),
-        });
-    }
-    do_cleanup(rt, t, number_at(s, at), image, index)?;
-    Ok(Step {
-        setting: t,
-        at: plus(at, 8),
-    })
 }
 
-// A question that reads no block.
+// The lookup of a kind whose arguments stand at `at`, and the place behind them.
+fn lookup_at(s: &[u8], kind: u64, at: usize) -> (Lookup, usize) {
+    let one = number_at(s, at);
+    let second = plus(at, 8);
+    let two = number_at(s, second);
+    let third = plus(at, 16);
+    let three = number_at(s, third);
+    match kind {
+        4 => (Lookup::Block(reference_at(s, at)), plus(at, 56)),
+        5 => (Lookup::Round(one), second),
+        6 => (Lookup::AtAuthorityRound(one, two), third),
+        7 => (Lookup::Own(one, two as usize), third),
+        _ => (Lookup::Others(one, two, three as usize), plus(at, 24)),
+    }
+}
+
+// The question of a kind whose arguments stand at `at`, and the place behind them.
+fn question_at(s: &[u8], kind: u64, at: usize) -> (Question<'_>, usize) {
+    let second = plus(at, 8);
+    match kind {
+        9 => {
+            let locator = TransactionLocator {
+                block: reference_at(s, at),
+                offset: number_at(s, plus(at, 56)),
+            };
+            (Question::Transaction(locator), plus(at, 64))
+        }
+        10 => {
+            let earlier = behind(s, at);
+            let linked = Question::Linked(bytes_at(s, at), reference_at(s, earlier));
+            (linked, plus(earlier, 56))
+        }
+        11 => (Question::Exists(reference_at(s, at)), plus(at, 56)),
+        12 => {
+            let exists = Question::ExistsAt(number_at(s, at), number_at(s, second));
+            (exists, plus(at, 16))
+        }
+        _ => {
+            let all = Question::AllExist(number_at(s, at), authorities_at(s, second));
+            (all, behind_words(s, second))
+        }
+    }
+}
+
+// The call at `at`, and the place behind it.
+fn call_at(s: &[u8], at: usize) -> (Call<'_>, usize) {
+    let kind = number_at(s, at);
+    let start = plus(at, 8);
+    let second = plus(at, 16);
+    match kind {
+        1 => (Call::Open, start),
+        2 => {
+            let insert = Call::Insert(number_at(s, start), bytes_at(s, second));
+            (insert, behind(s, second))
+        }
+        3 => (Call::Cleanup(number_at(s, start)), second),
+        4..=8 => {
+            let (lookup, end) = lookup_at(s, kind, start);
+            (Call::Look(lookup), end)
+        }
+        _ => {
+            let (question, end) = question_at(s, kind, start);
+            (Call::Ask(question), end)
+        }
+    }
+}
+
+// ---- Writing
+
+// The name of a call, and its number: 0 where it is not refused.
+fn show_number<T>(rt: &impl Print, name: &[u8], answer: &Result<T, Refusal>) -> io::Result<()> {
+    rt.write_all(name)?;
+    number(rt, u64::from(number_of(answer)))
+}
+
+fn show_table(rt: &impl Print, t: &[u64]) -> io::Result<()> {
+    hex(rt, u64::from(!feed_table(0xffff_ffff, t)), 8)
+}
+
+// The highest round, the last seen rounds and the own reference.
+fn show_summary(rt: &impl Print, s: StoreSummary) -> io::Result<()> {
+    let one = feed_word(0xffff_ffff, s.highest_round);
+    let two = feed_table(one, &s.last_seen_by_authority);
+    let three = feed_reference(two, s.last_own_block);
+    hex(rt, u64::from(!three), 8)
+}
+
+// Used, rows and loads, and checksums of the image, the index and the summary.
+fn show_setting(rt: &impl Print, setting: Setting, image: &[u8], index: &[u64]) -> io::Result<()> {
+    let store = setting.store;
+    number(rt, setting.used)?;
+    number(rt, store.rows as u64)?;
+    number(rt, store.loads)?;
+    hex(rt, u64::from(checksum::hash(image)), 8)?;
+    show_table(rt, index)?;
+    show_summary(rt, store.summary)?;
+    end_line(rt)
+}
+
+// Round, authority, first word of the digest, and the place and the length of the block's bytes.
+fn show_row(rt: &impl Print, row: &[u64; 8]) -> io::Result<()> {
+    let [round, authority, first, _, _, _, place, length] = *row;
+    print!(rt; "{round}")?;
+    number(rt, authority)?;
+    hex(rt, first, 16)?;
+    number(rt, place)?;
+    number(rt, length)?;
+    end_line(rt)
+}
+
+fn show_answer(rt: &impl Print, name: &[u8], answer: Result<bool, Refusal>) -> io::Result<()> {
+    rt.write_all(name)?;
+    match answer {
+        Ok(true) => print!(rt; " YES")?,
+        Ok(false) => print!(rt; " NO")?,
+        Err(refusal) => number(rt, u64::from(refusal.number()))?,
+    }
+    end_line(rt)
+}
+
+// ---- Calls that change image or index. A refused one leaves the setting as it is.
+
+fn open(rt: &impl Print, setting: Setting, image: &[u8], index: &mut [u64]) -> io::Result<Setting> {
+    let mut pending = [7u64; 512];
+    let mut unprocessed = [7u64; 512];
+    let mut committed = [7u64; 512];
+    let size = setting.store.committee_size;
+    let own = setting.store.authority;
+    let recovered = recovery::recover(
+        &setting.log(image),
+        size,
+        own,
+        &mut pending,
+        &mut unprocessed,
+        &mut committed,
+        index,
+    );
+    let opened = BlockStore::open(size, own, recovered);
+    show_number(rt, b"open", &opened)?;
+    let after = Setting {
+        store: opened.unwrap_or(setting.store),
+        ..setting
+    };
+    show_setting(rt, after, image, index)?;
+    Ok(after)
+}
+
+fn insert(
+    rt: &impl Print,
+    setting: Setting,
+    tag: u64,
+    payload: &[u8],
+    image: &mut [u8],
+    index: &mut [u64],
+) -> io::Result<Setting> {
+    let store = setting.store;
+    let writer = WalWriter {
+        exponent: setting.exponent,
+        used: setting.used,
+    };
+    let answer = if tag == 3 {
+        insert::insert_own_block(writer, image, store, index, payload)
+    } else {
+        insert::insert_block(writer, image, store, index, payload)
+    };
+    show_number(rt, b"insert", &answer)?;
+    let inserted = answer.unwrap_or(Inserted {
+        position: WalPosition(0),
+        writer,
+        store,
+    });
+    number(rt, inserted.position.0)?;
+    let after = Setting {
+        used: inserted.writer.used,
+        store: inserted.store,
+        ..setting
+    };
+    show_setting(rt, after, image, index)?;
+    Ok(after)
+}
+
+fn clean(
+    rt: &impl Print,
+    setting: Setting,
+    round: RoundNumber,
+    image: &[u8],
+    index: &mut [u64],
+) -> io::Result<()> {
+    print!(rt; "cleanup")?;
+    match cleanup::cleanup(&setting.log(image), setting.store, index, round) {
+        Ok(unloaded) => print!(rt; " UNLOADED {unloaded}")?,
+        Err(refusal) => number(rt, u64::from(refusal.number()))?,
+    }
+    show_setting(rt, setting, image, index)
+}
+
+// ---- Calls that read. Each gives the store after it: a refused one leaves it as it is.
+
+// Number, rows, loads and a checksum of the answer table; then the rows.
+fn show_looked(
+    rt: &impl Print,
+    name: &[u8],
+    store: BlockStore,
+    answer: Result<Looked, Refusal>,
+    out: &[u64],
+) -> io::Result<BlockStore> {
+    show_number(rt, name, &answer)?;
+    let looked = answer.unwrap_or(Looked { rows: 0, store });
+    number(rt, looked.rows as u64)?;
+    number(rt, looked.store.loads)?;
+    show_table(rt, out)?;
+    end_line(rt)?;
+    for row in out.as_chunks().0.iter().take(looked.rows) {
+        show_row(rt, row)?;
+    }
+    Ok(looked.store)
+}
+
+fn look(
+    rt: &impl Print,
+    view: &StoreView<'_>,
+    lookup: Lookup,
+    out: &mut [u64],
+) -> io::Result<BlockStore> {
+    let store = view.store;
+    match lookup {
+        Lookup::Block(reference) => {
+            let answer = lookup::get_block(view, reference, out);
+            show_looked(rt, b"get_block", store, answer, out)
+        }
+        Lookup::Round(round) => {
+            let answer = lookup::get_blocks_by_round(view, round, out);
+            show_looked(rt, b"get_blocks_by_round", store, answer, out)
+        }
+        Lookup::AtAuthorityRound(authority, round) => {
+            let answer = lookup::get_blocks_at_authority_round(view, authority, round, out);
+            show_looked(rt, b"get_blocks_at_authority_round", store, answer, out)
+        }
+        Lookup::Own(from, limit) => {
+            let answer = lookup_after::get_own_blocks(view, from, limit, out);
+            show_looked(rt, b"get_own_blocks", store, answer, out)
+        }
+        Lookup::Others(from, authority, limit) => {
+            let answer = lookup_after::get_others_blocks(view, from, authority, limit, out);
+            show_looked(rt, b"get_others_blocks", store, answer, out)
+        }
+    }
+}
+
+fn get_transaction(
+    rt: &impl Print,
+    view: &StoreView<'_>,
+    locator: TransactionLocator,
+) -> io::Result<BlockStore> {
+    let answer = transaction::get_transaction(view, locator);
+    show_number(rt, b"get_transaction", &answer)?;
+    let found = answer.unwrap_or(FoundTransaction {
+        share: None,
+        store: view.store,
+    });
+    show_place(rt, view.log.image, found.share)?;
+    number(rt, found.store.loads)?;
+    end_line(rt)?;
+    Ok(found.store)
+}
+
+fn linked(
+    rt: &impl Print,
+    view: &StoreView<'_>,
+    later: &[u8],
+    earlier: BlockReference,
+    work: &mut [u64],
+) -> io::Result<BlockStore> {
+    let answer = linked::linked(view, later, earlier, work);
+    show_number(rt, b"linked", &answer)?;
+    let found = answer.unwrap_or(LinkedAnswer {
+        linked: false,
+        store: view.store,
+    });
+    number(rt, u64::from(found.linked))?;
+    number(rt, found.store.loads)?;
+    show_table(rt, work)?;
+    end_line(rt)?;
+    Ok(found.store)
+}
+
 fn ask(
     rt: &impl Print,
-    t: Setting,
-    kind: u64,
-    s: &[u8],
-    at: usize,
-    image: &[u8],
-    index: &[u64],
-) -> io::Result<Step> {
-    if kind == 11 {
-        do_block_exists(rt, t, reference_at(s, at), image, index)?;
-        return Ok(Step {
-            setting: t,
-            at: plus(at, 56),
-        });
-    }
-    if kind == 12 {
-        do_exists_at(
-            rt,
-            t,
-            number_at(s, at),
-            number_at(s, plus(at, 8)),
-            image,
-            index,
-        )?;
-        return Ok(Step {
-            setting: t,
-            at: plus(at, 16),
-        });
-    }
-    let list = plus(at, 8);
-    let mut authorities = [0u64; 8];
-    load_words(s, list, &mut authorities);
-    ask_all(
-        rt,
-        t,
-        number_at(s, at),
-        number_at(s, list),
-        &authorities,
-        image,
-        index,
-    )?;
-    Ok(Step {
-        setting: t,
-        at: behind_words(s, list),
-    })
-}
-
-fn ask_all(
-    rt: &impl Print,
-    t: Setting,
-    round: u64,
-    n: u64,
-    authorities: &[u64],
-    image: &[u8],
-    index: &[u64],
-) -> io::Result<()> {
-    if n as usize <= authorities.len() {
-        do_all_exist(rt, t, &authorities[..n as usize], round, image, index)?;
-    }
-    Ok(())
-}
-
-fn width(kind: u64) -> usize {
-    if kind == 4 {
-        return 56;
-    }
-    if kind == 5 {
-        return 8;
-    }
-    if kind == 8 {
-        return 24;
-    }
-    16
-}
-
-// A lookup that reads blocks.
-fn find(
-    rt: &impl Print,
-    t: Setting,
-    kind: u64,
-    s: &[u8],
-    at: usize,
-    image: &[u8],
-    index: &[u64],
-    out: &mut [u64],
+    view: &StoreView<'_>,
+    question: Question<'_>,
     work: &mut [u64],
-) -> io::Result<Step> {
-    if kind == 9 {
-        return Ok(Step {
-            setting: do_transaction(rt, t, s, at, image, index)?,
-            at: plus(at, 64),
-        });
+) -> io::Result<BlockStore> {
+    match question {
+        Question::Transaction(locator) => return get_transaction(rt, view, locator),
+        Question::Linked(later, earlier) => return linked(rt, view, later, earlier, work),
+        Question::Exists(reference) => {
+            let answer = exists::block_exists(view, reference);
+            show_answer(rt, b"block_exists", answer)?;
+        }
+        Question::ExistsAt(authority, round) => {
+            let answer = exists::block_exists_at_authority_round(view, authority, round);
+            show_answer(rt, b"block_exists_at_authority_round", answer)?;
+        }
+        Question::AllExist(round, authorities) => {
+            let all = &authorities.words[..8.min(authorities.count)];
+            let answer = exists::all_blocks_exists_at_authority_round(view, all, round);
+            show_answer(rt, b"all_blocks_exists_at_authority_round", answer)?;
+        }
     }
-    if kind == 10 {
-        let earlier = behind(s, at);
-        return Ok(Step {
-            setting: do_linked(
-                rt,
-                t,
-                bytes_at(s, at),
-                reference_at(s, earlier),
-                image,
-                index,
-                work,
-            )?,
-            at: plus(earlier, 56),
-        });
-    }
-    Ok(Step {
-        setting: do_look(rt, t, kind, s, at, image, index, out)?,
-        at: plus(at, width(kind)),
-    })
+    Ok(view.store)
 }
 
-fn call(
+// ---- The cases
+
+// Makes a call, and gives the setting after it.
+fn run_call(
     rt: &impl Print,
-    t: Setting,
-    s: &[u8],
-    at: usize,
+    setting: Setting,
+    call: Call<'_>,
     image: &mut [u8],
     index: &mut [u64],
     out: &mut [u64],
     work: &mut [u64],
-) -> io::Result<Step> {
-    let kind = number_at(s, at);
-    let arguments = plus(at, 8);
-    if kind < 4 {
-        return change(rt, t, kind, s, arguments, image, index);
+) -> io::Result<Setting> {
+    match call {
+        Call::Open => open(rt, setting, image, index),
+        Call::Insert(tag, payload) => insert(rt, setting, tag, payload, image, index),
+        Call::Cleanup(round) => {
+            clean(rt, setting, round, image, index)?;
+            Ok(setting)
+        }
+        Call::Look(lookup) => {
+            let store = look(rt, &setting.view(image, index), lookup, out)?;
+            Ok(Setting { store, ..setting })
+        }
+        Call::Ask(question) => {
+            let store = ask(rt, &setting.view(image, index), question, work)?;
+            Ok(Setting { store, ..setting })
+        }
     }
-    if kind < 11 {
-        return find(rt, t, kind, s, arguments, image, index, out, work);
-    }
-    ask(rt, t, kind, s, arguments, image, index)
 }
 
 // The calls whose number stands at `at`; answers the place behind them.
 fn run_calls(
     rt: &impl Print,
-    t: Setting,
+    start: Setting,
     s: &[u8],
     at: usize,
     image: &mut [u8],
@@ -605,26 +490,19 @@ fn run_calls(
     out: &mut [u64],
     work: &mut [u64],
 ) -> io::Result<usize> {
-    let count = number_at(s, at);
-    let mut step = Step {
-        setting: t,
-        at: plus(at, 8),
-    };
-    for _ in 0..count {
-        step = call(rt, step.setting, s, step.at, image, index, out, work)?;
+    let mut setting = start;
+    let mut place = plus(at, 8);
+    for _ in 0..number_at(s, at) {
+        let (call, end) = call_at(s, place);
+        setting = run_call(rt, setting, call, image, index, out, work)?;
+        place = end;
     }
-    Ok(step.at)
-}
-
-fn within(n: u64, len: usize) -> usize
-    ensures { result ≤ len }
-{
-    if (n as usize) < len { n as usize } else { len }
+    Ok(place)
 }
 
 fn setting_at(s: &[u8], at: usize) -> Setting {
     Setting {
-        k: number_at(s, at),
+        exponent: number_at(s, at),
         used: number_at(s, plus(at, 8)),
         store: BlockStore {
             committee_size: number_at(s, plus(at, 16)),
@@ -647,10 +525,10 @@ fn lend(
     out: &mut [u64],
     work: &mut [u64],
 ) -> io::Result<usize> {
-    let i = within(number_at(s, from), image.len());
-    let x = within(number_at(s, plus(at, 48)), index.len());
-    let o = within(number_at(s, plus(at, 56)), out.len());
-    let w = within(number_at(s, plus(at, 64)), work.len());
+    let i = image.len().min(number_at(s, from) as usize);
+    let x = index.len().min(number_at(s, plus(at, 48)) as usize);
+    let o = out.len().min(number_at(s, plus(at, 56)) as usize);
+    let w = work.len().min(number_at(s, plus(at, 64)) as usize);
     run_calls(
         rt,
         setting_at(s, at),
@@ -671,7 +549,7 @@ fn show_case(rt: &HostRuntime, s: &[u8], at: usize) -> io::Result<usize> {
     let mut work = [7u64; 512];
     let numbers = behind(s, at);
     let from = plus(numbers, 72);
-    text(rt, bytes_at(s, at))?;
+    rt.write_all(bytes_at(s, at))?;
     end_line(rt)?;
     load_bytes(bytes_at(s, from), &mut image);
     load_words(s, behind(s, from), &mut index);

@@ -5,46 +5,49 @@
 
 use case_lines::{blank, end_line, number, plus, refused, stop_word};
 use std::io;
-use wal::{Appended, Found, WalPosition, WalWriter, Walked};
+use wal::{Log, Refusal, RefusedAt, WalEntry, WalPosition, WalWriter, Walked};
 
-fn show_appended(rt: &impl Print, a: Appended) -> io::Result<()> {
+fn show_appended(
+    rt: &impl Print,
+    appended: Result<(WalPosition, WalWriter), Refusal>,
+) -> io::Result<()> {
     print!(rt; "append")?;
-    match a {
-        Appended::At(position, writer) => {
+    match appended {
+        Ok((position, writer)) => {
             number(rt, position.0)?;
             number(rt, writer.used)?;
         }
-        Appended::Refused(n) => refused(rt, n)?,
+        Err(refusal) => refused(rt, refusal)?,
     }
     end_line(rt)
 }
 
-fn show_found(rt: &impl Print, f: Found) -> io::Result<()> {
+fn show_found(rt: &impl Print, found: Result<WalEntry, Refusal>) -> io::Result<()> {
     print!(rt; "read")?;
-    match f {
-        Found::Entry(e) => {
-            number(rt, e.position.0)?;
-            number(rt, u64::from(e.tag))?;
-            number(rt, e.len)?;
-            number(rt, u64::from(e.checksum))?;
+    match found {
+        Ok(entry) => {
+            number(rt, entry.position.0)?;
+            number(rt, u64::from(entry.tag))?;
+            number(rt, entry.len)?;
+            number(rt, u64::from(entry.checksum))?;
         }
-        Found::Refused(n) => refused(rt, n)?,
+        Err(refusal) => refused(rt, refusal)?,
     }
     end_line(rt)
 }
 
-fn show_walked(rt: &impl Print, w: Walked) -> io::Result<()> {
+fn show_walked(rt: &impl Print, walked: Result<Walked, RefusedAt>) -> io::Result<()> {
     print!(rt; "walk")?;
-    match w {
-        Walked::Stopped(stop, end, unread) => {
+    match walked {
+        Ok(walk) => {
             blank(rt)?;
-            stop_word(rt, stop)?;
-            number(rt, end.0)?;
-            number(rt, unread)?;
+            stop_word(rt, walk.stop)?;
+            number(rt, walk.end.0)?;
+            number(rt, walk.unread)?;
         }
-        Walked::Refused(n, start) => {
-            refused(rt, n)?;
-            number(rt, start.0)?;
+        Err(at) => {
+            refused(rt, at.refusal)?;
+            number(rt, at.start.0)?;
         }
     }
     end_line(rt)
@@ -59,16 +62,21 @@ fn show_calls(
     payload: &[u8],
     position: u64,
 ) -> io::Result<()> {
-    show_found(rt, wal::read(k, image, used, WalPosition(position)))?;
-    show_walked(rt, wal::walk(k, image, used))?;
+    let log = Log {
+        exponent: k,
+        image,
+        used,
+    };
+    show_found(rt, wal::read(&log, WalPosition(position)))?;
+    show_walked(rt, wal::walk(&log))?;
     let writer = WalWriter { exponent: k, used };
     show_appended(rt, wal::append(writer, image, 2, payload))
 }
 
 fn put(writer: WalWriter, image: &mut [u8], tag: u32, payload: &[u8]) -> WalWriter {
     match wal::append(writer, image, tag, payload) {
-        Appended::At(_, next) => next,
-        Appended::Refused(_) => writer,
+        Ok((_, next)) => next,
+        Err(_) => writer,
     }
 }
 
@@ -129,10 +137,15 @@ fn header_rows(rt: &impl Print) -> io::Result<()> {
 
 // Rows 16 and 17, and what is there, in the first log.
 fn read_rows(rt: &impl Print, image: &[u8], used: u64) -> io::Result<()> {
+    let log = Log {
+        exponent: 6,
+        image,
+        used,
+    };
     for position in [0, 25, 41, 49, 64, 80, 88, 89] {
-        show_found(rt, wal::read(6, image, used, WalPosition(position)))?;
+        show_found(rt, wal::read(&log, WalPosition(position)))?;
     }
-    show_found(rt, wal::read(6, image, used, WalPosition::MAX))
+    show_found(rt, wal::read(&log, WalPosition::MAX))
 }
 
 fn reads(rt: &impl Print) -> io::Result<()> {
@@ -142,8 +155,13 @@ fn reads(rt: &impl Print) -> io::Result<()> {
 }
 
 fn show_damaged(rt: &impl Print, image: &[u8], used: u64, position: u64) -> io::Result<()> {
-    show_found(rt, wal::read(6, image, used, WalPosition(position)))?;
-    show_walked(rt, wal::walk(6, image, used))
+    let log = Log {
+        exponent: 6,
+        image,
+        used,
+    };
+    show_found(rt, wal::read(&log, WalPosition(position)))?;
+    show_walked(rt, wal::walk(&log))
 }
 
 // The first log with its first payload changed: the fifth byte, the first five, and the first four. Five may pass (crates/burst).

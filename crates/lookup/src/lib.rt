@@ -24,8 +24,9 @@ pub fn get_block(
 ) -> Result<Looked, Refusal>
     ensures { of_view GetBlock view.now reference result out.old out.new }
 {
-    tables::clear(out);
-    view.check()?;
+    if let Err(refusal) = view.check() {
+        return query::refuse(refusal, out);
+    }
     let rows = view.rows();
     match rows::find(rows, index::key_of(reference)) {
         Ok(i) => query::answer(view, &rows[i..i + 1], None, 1, out),
@@ -66,8 +67,9 @@ fn blocks_of_round(
     ensures { QueryAnswers (blocks_of_round (of_view call_of view.now) author round)
         result out.old out.new }
 {
-    tables::clear(out);
-    view.check()?;
+    if let Err(refusal) = view.check() {
+        return query::refuse(refusal, out);
+    }
     let rows = view.rows();
     let from = filters::lower_bound(rows, [round, 0, 0, 0, 0, 0]);
     let to = filters::first_above(rows, round);

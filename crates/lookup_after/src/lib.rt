@@ -37,8 +37,9 @@ pub fn get_own_blocks(
 ) -> Result<Looked, Refusal>
     ensures { of_view GetOwnBlocks view.now from_excluded limit result out.old out.new }
 {
-    tables::clear(out);
-    check_after(view, from_excluded)?;
+    if let Err(refusal) = check_after(view, from_excluded) {
+        return query::refuse(refusal, out);
+    }
     let rows = view.rows();
     let from = filters::first_above(rows, from_excluded);
     query::answer(view, &rows[from..], Some(view.store.authority), limit, out)
@@ -55,8 +56,9 @@ pub fn get_others_blocks(
     ensures { of_view GetOthersBlocks view.now from_excluded authority limit
         result out.old out.new }
 {
-    tables::clear(out);
-    check_after(view, from_excluded)?;
+    if let Err(refusal) = check_after(view, from_excluded) {
+        return query::refuse(refusal, out);
+    }
     let rows = view.rows();
     let from = filters::first_above(rows, from_excluded);
     let later = &rows[from..];

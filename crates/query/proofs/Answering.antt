@@ -13,7 +13,6 @@ use Rattle.std.proofs.Common.{Ok, Err}
 use borrow.Author.Tests.{lt-ltb, le-ltb}
 use Rattle.laws.specs.Pick.{pick}
 use Rattle.laws.proofs.Tests.{leb_cases}
-use Rattle.laws.proofs.Written.{length_zeros}
 use Rattle.tables.specs.Tables.{table_of}
 use Rattle.laws.specs.Bytes.{zeros}
 use Rattle.refusal.specs.declared.Refusal.{Refusal}
@@ -90,16 +89,10 @@ module _ (call : Call) (chosen : List (List ℕ)) {r : Result Looked Refusal} {o
   unfolding query looked looked_table unless
   query_collected is words = record { answer = is; words = words }
 
-  -- the same question, once its checks have passed and its rows are found; the table is as long as before
-  pub query_answers : {number : ℕ} {these : List (List ℕ)} {mid : List ℕ} → Ok tt ≡ checked number → these ≡ chosen → mid ≡ zeros (length out)
-      → QueryAnswers (record { call = call; number = 0; chosen = these }) r mid out'
+  -- the same question, once its checks have passed and its rows are found
+  pub query_answers : {number : ℕ} {these : List (List ℕ)} → Ok tt ≡ checked number → these ≡ chosen
+      → QueryAnswers (record { call = call; number = 0; chosen = these }) r out out'
       → QueryAnswers (record { call = call; number = number; chosen = chosen }) r out out'
-  query_answers {number} {these} {mid} found same clear h =
-      let number_is : 0 ≡ number = sym (passed number found) in
-      let long : length mid ≡ length out = ap length clear ∙ length_zeros (length out) in
-      subst (λ (n : ℕ). QueryAnswers (record { call = call; number = n; chosen = chosen }) r out out') number_is
-      (subst (λ (l : List (List ℕ)). QueryAnswers (record { call = call; number = 0; chosen = l }) r out out') same
-      (record {
-        answer = h.answer ∙ ap (looked (record { call = call; number = 0; chosen = these })) long;
-        words = h.words ∙ ap (looked_table (record { call = call; number = 0; chosen = these })) long;
-      }))
+  query_answers {number} {these} found same h =
+      subst (λ (n : ℕ). QueryAnswers (record { call = call; number = n; chosen = chosen }) r out out') (sym (passed number found))
+      (subst (λ (l : List (List ℕ)). QueryAnswers (record { call = call; number = 0; chosen = l }) r out out') same h)

@@ -6,7 +6,7 @@
 // bytes stand in the image.
 #![tactic(auto)]
 
-ghost use Rattle.std.specs.Prelude.{◌≡◌, length};
+ghost use Rattle.std.specs.Prelude.{◌≡◌, length, Err};
 ghost use Rattle.laws.specs.Bytes.{zeros};
 ghost use Rattle.wal_position.specs.Logs.{of_log};
 ghost use Rattle.store.specs.Views.{of_view};
@@ -97,8 +97,16 @@ fn finish(
     })
 }
 
-// A query that no check refused, of these rows, with a table of zeros for its answer. A refusal
-// leaves no word in the table.
+// A query that a check refused. It leaves no word in the table.
+pub fn refuse(refusal: Refusal, out: &mut [u64]) -> Result<Looked, Refusal>
+    ensures value { result ≡ Err refusal }
+    ensures out_after { out.new ≡ zeros (length out.old) }
+{
+    tables::clear(out);
+    Err(refusal)
+}
+
+// A query that no check refused, of these rows. A refusal leaves no word in the table.
 pub fn answer(
     view: &StoreView<'_>,
     rows: &[[u64; 8]],
@@ -106,7 +114,6 @@ pub fn answer(
     limit: usize,
     out: &mut [u64],
 ) -> Result<Looked, Refusal>
-    requires { out.old ≡ zeros (length out.old) }
     ensures { QueryAnswers
         (record {
           call = of_view call_of view.now;
@@ -115,6 +122,7 @@ pub fn answer(
         })
         result out.old out.new }
 {
+    tables::clear(out);
     let collected = collect(&view.log, rows, author, limit, out);
     let looked = finish(view.store, collected, out.len() / 8);
     if looked.is_err() {

@@ -1,9 +1,8 @@
 -- `lookup::blocks_of_round` meets its contract: the rows of a round are a segment of the index. Assumes nothing.
-use mathlib.Core.Path.{ap, ◌∙◌}
+use mathlib.Core.Path.{sym, ap, ◌∙◌}
 use Prim.Native.Nat.{◌≤◌}
 use native.Mathlib.Omega.{arith}
 use lib.ListN.{length}
-use Rattle.refusal.proofs.Numbers.{handed_on}
 use Rattle.rows.specs.Rows.{Ascending}
 use Rattle.tables.specs.Tables.{EightWords}
 use Rattle.tables.proofs.Tables.{eights_rows_of}
@@ -21,13 +20,13 @@ use Rattle.lookup.proofs.blocks_of_round.Goals.{After-first_above-to, After-rows
 -- the rows
 
 ascends : (c : After-rows-rows) → Ascending c.rows-rows.result.now
-ascends c = rw c.rows-rows.ensures (view_checked c.args.view.now c.in_ok-check.ensures).ascends
+ascends c = rw c.rows-rows.ensures (view_checked c.args.view.now (sym c.in_default.is ∙ c.check.ensures)).ascends
 
 eights : (c : After-rows-rows) → EightWords c.rows-rows.result.now
 unfolding indexed
 eights c =
     let v = c.args.view.now in
-    rw c.rows-rows.ensures (eights_rows_of v.store.rows v.index.now (view_checked v c.in_ok-check.ensures).fits)
+    rw c.rows-rows.ensures (eights_rows_of v.store.rows v.index.now (view_checked v (sym c.in_default.is ∙ c.check.ensures)).fits)
 
 -- the part of them that is asked for
 within : (c : After-first_above-to) → (c.lower_bound-from.result ≤ c.first_above-to.result) × (c.first_above-to.result ≤ length c.rows-rows.result.now)
@@ -38,14 +37,14 @@ within c =
       round_part_within rows (ascends found) (eights found) c.args.round c.lower_bound-from.ensures c.first_above-to.ensures,
     )
 
-pub returns-in_err-check : goal.returns-in_err-check
-returns-in_err-check c =
+pub returns-in-Err : goal.returns-in-Err
+returns-in-Err c =
     let a = c.args in
-    query_refused (blocks_of_round (of_view call_of a.view.now) a.author a.round) c.in_err-check.ensures
-    (handed_on c.from_residual.result c.from_residual.ensures) c.clear.ensures
+    query_refused (blocks_of_round (of_view call_of a.view.now) a.author a.round) (sym c.in-Err.is ∙ c.check.ensures)
+    c.refuse.ensures.value c.refuse.ensures.out_after
 
 pub rows-rows-requires : goal.rows-rows-requires
-rows-rows-requires c = (view_checked c.args.view.now c.in_ok-check.ensures).fits
+rows-rows-requires c = (view_checked c.args.view.now (sym c.in_default.is ∙ c.check.ensures)).fits
 
 pub lower_bound-from-requires : goal.lower_bound-from-requires
 lower_bound-from-requires c = ascends (goal.at.lower_bound-from-requires c).After-rows-rows
@@ -72,8 +71,8 @@ returns c =
     let a = c.args in
     let rows = c.rows-rows.result.now in
     let found = (goal.at.returns c).After-rows-rows in
-    query_answers (of_view call_of a.view.now) _ c.in_ok-check.ensures
+    query_answers (of_view call_of a.view.now) _ (sym c.in_default.is ∙ c.check.ensures)
     (round_chosen rows (ascends found) (eights found) a.round c.lower_bound-from.ensures c.first_above-to.ensures a.author (length rows) (omega arith)
     ∙ same_rows a.author a.round rows
     ∙ ap (in_round a.author a.round) c.rows-rows.ensures)
-    c.clear.ensures c.answer.ensures
+    c.answer.ensures

@@ -4,7 +4,6 @@ use mathlib.Core.List.{List}
 use Prim.Native.Nat.{ℕ, ◌+◌, ◌<◌}
 use native.Mathlib.Omega.{arith}
 use lib.ListN.{length}
-use Rattle.refusal.proofs.Numbers.{handed_on}
 use Rattle.rows.specs.Rows.{Ascending, place_of}
 use Rattle.index.specs.Keys.{key_words}
 use Rattle.store.specs.Views.{of_view}
@@ -20,7 +19,7 @@ use Rattle.lookup.proofs.get_block.Goals as goal
 use Rattle.lookup.proofs.get_block.Goals.{After-find, After-rows-rows, In-Ok}
 
 ascends : (c : After-rows-rows) → Ascending c.rows-rows.result.now
-ascends c = rw c.rows-rows.ensures (view_checked c.args.view.now c.in_ok-check.ensures).ascends
+ascends c = rw c.rows-rows.ensures (view_checked c.args.view.now (sym c.in_default.is ∙ c.check.ensures)).ascends
 
 -- where the row is
 place : (c : After-find) → c.find.result ≡ place_of (key_words c.args.reference) c.rows-rows.result.now
@@ -31,14 +30,14 @@ within c =
     (reference_row c.rows-rows.result.now (ascends (goal.at.In-Ok c).After-rows-rows) c.args.reference
     (sym c.in-Ok.is ∙ place (goal.at.In-Ok c).After-find)).0
 
-pub returns-in_err-check : goal.returns-in_err-check
-returns-in_err-check c =
+pub returns-in-Err : goal.returns-in-Err
+returns-in-Err c =
     let a = c.args in
-    query_refused (get_block (of_view call_of a.view.now) a.reference) c.in_err-check.ensures
-    (handed_on c.from_residual.result c.from_residual.ensures) c.clear.ensures
+    query_refused (get_block (of_view call_of a.view.now) a.reference) (sym c.in-Err.is ∙ c.check.ensures)
+    c.refuse.ensures.value c.refuse.ensures.out_after
 
 pub rows-rows-requires : goal.rows-rows-requires
-rows-rows-requires c = (view_checked c.args.view.now c.in_ok-check.ensures).fits
+rows-rows-requires c = (view_checked c.args.view.now (sym c.in_default.is ∙ c.check.ensures)).fits
 
 pub find-requires : goal.find-requires
 find-requires c = ascends (goal.at.find-requires c).After-rows-rows
@@ -58,17 +57,17 @@ returns-in-Ok c =
     let rows = c.rows-rows.result.now in
     let row = reference_row rows (ascends (goal.at.returns-in-Ok c).After-rows-rows) a.reference (sym c.in-Ok.is ∙ place (goal.at.returns-in-Ok c).After-find) in
     let i = c.in-Ok.i in
-    query_answers (of_view call_of a.view.now) _ c.in_ok-check.ensures
+    query_answers (of_view call_of a.view.now) _ (sym c.in_default.is ∙ c.check.ensures)
     (chosen_every 1 _ (omega (arith, length_part rows i (i + 1) (omega (arith, row.0))))
     ∙ part_one rows i row.0
     ∙ row.1
     ∙ ap (by_reference a.reference) c.rows-rows.ensures)
-    c.clear.ensures c.answer.ensures
+    c.answer.ensures
 
-pub returns-in-Err : goal.returns-in-Err
+pub returns-in-Err-find : goal.returns-in-Err-find
 unfolding chosen
-returns-in-Err c =
+returns-in-Err-find c =
     let a = c.args in
-    let absent = reference_absent c.rows-rows.result.now a.reference (sym c.in-Err.is ∙ place (goal.at.returns-in-Err c).After-find) in
-    query_answers (of_view call_of a.view.now) _ c.in_ok-check.ensures (sym absent ∙ ap (by_reference a.reference) c.rows-rows.ensures) c.clear.ensures
-    c.answer-in-Err.ensures
+    let absent = reference_absent c.rows-rows.result.now a.reference (sym c.in-Err-find.is ∙ place (goal.at.returns-in-Err-find c).After-find) in
+    query_answers (of_view call_of a.view.now) _ (sym c.in_default.is ∙ c.check.ensures) (sym absent ∙ ap (by_reference a.reference) c.rows-rows.ensures)
+    c.answer-in-Err-find.ensures

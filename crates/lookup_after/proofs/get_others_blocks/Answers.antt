@@ -6,7 +6,6 @@ use native.Mathlib.Omega.{arith}
 use lib.ListN.{length, take, drop}
 use lib.Seq.{length-take-le}
 use Rattle.std.specs.Prelude.{Some}
-use Rattle.refusal.proofs.Numbers.{handed_on}
 use Rattle.rows.specs.Rows.{Ascending}
 use Rattle.store.specs.Views.{of_view}
 use Rattle.filters.specs.Filters.{others_after}
@@ -20,7 +19,7 @@ use Rattle.lookup_after.proofs.get_others_blocks.Goals as goal
 use Rattle.lookup_after.proofs.get_others_blocks.Goals.{After-rows-rows, After-first_above-from, After-rounds_end-to}
 
 ascends : (c : After-rows-rows) → Ascending c.rows-rows.result.now
-ascends c = rw c.rows-rows.ensures (after_checked c.args.view.now c.args.from_excluded c.in_ok-check_after.ensures).ascends
+ascends c = rw c.rows-rows.ensures (after_checked c.args.view.now c.args.from_excluded (sym c.in_default.is ∙ c.check_after.ensures)).ascends
 
 within : (c : After-first_above-from) → c.first_above-from.result ≤ length c.rows-rows.result.now
 within c = after_part_within c.rows-rows.result.now (ascends (goal.at.After-first_above-from c).After-rows-rows) c.args.from_excluded c.first_above-from.ensures
@@ -33,14 +32,14 @@ later c = drop c.first_above-from.result c.rows-rows.result.now
 ends : (c : After-rounds_end-to) → c.rounds_end-to.result ≡ rounds_long c.args.limit (later (goal.at.After-rounds_end-to c).After-first_above-from)
 ends c = c.rounds_end-to.ensures ∙ ap (rounds_long c.args.limit) (part_behind c.rows-rows.result.now c.first_above-from.result)
 
-pub returns-in_err-check_after : goal.returns-in_err-check_after
-returns-in_err-check_after c =
+pub returns-in-Err : goal.returns-in-Err
+returns-in-Err c =
     let a = c.args in
-    query_refused (get_others_blocks (of_view call_of a.view.now) a.from_excluded a.authority a.limit) c.in_err-check_after.ensures
-    (handed_on c.from_residual.result c.from_residual.ensures) c.clear.ensures
+    query_refused (get_others_blocks (of_view call_of a.view.now) a.from_excluded a.authority a.limit) (sym c.in-Err.is ∙ c.check_after.ensures)
+    c.refuse.ensures.value c.refuse.ensures.out_after
 
 pub rows-rows-requires : goal.rows-rows-requires
-rows-rows-requires c = (after_checked c.args.view.now c.args.from_excluded c.in_ok-check_after.ensures).fits
+rows-rows-requires c = (after_checked c.args.view.now c.args.from_excluded (sym c.in_default.is ∙ c.check_after.ensures)).fits
 
 pub first_above-from-requires : goal.first_above-from-requires
 first_above-from-requires c = ascends (goal.at.first_above-from-requires c).After-rows-rows
@@ -68,9 +67,9 @@ returns c =
     let rows = c.rows-rows.result.now in
     let from = c.first_above-from.result in
     let to = c.rounds_end-to.result in
-    query_answers (of_view call_of a.view.now) _ c.in_ok-check_after.ensures
+    query_answers (of_view call_of a.view.now) _ (sym c.in_default.is ∙ c.check_after.ensures)
     (ap (λ (l : List (List ℕ)). chosen (Some a.authority) (length rows) (take to l)) (part_behind rows from)
     ∙ others_chosen rows (ascends (goal.at.returns c).After-rows-rows) a.from_excluded c.first_above-from.ensures a.limit
     (ends (goal.at.returns c).After-rounds_end-to) a.authority (length rows) (omega arith)
     ∙ ap (others_after a.authority a.from_excluded a.limit) c.rows-rows.ensures)
-    c.clear.ensures c.answer.ensures
+    c.answer.ensures

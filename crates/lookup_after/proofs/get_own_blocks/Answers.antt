@@ -1,10 +1,9 @@
 -- `lookup_after::get_own_blocks` meets its contract: the rows above a round are a segment of the index. Assumes nothing.
-use mathlib.Core.Path.{ap, ◌∙◌}
+use mathlib.Core.Path.{sym, ap, ◌∙◌}
 use Prim.Native.Nat.{◌≤◌}
 use native.Mathlib.Omega.{arith}
 use lib.ListN.{length}
 use Rattle.std.specs.Prelude.{Some}
-use Rattle.refusal.proofs.Numbers.{handed_on}
 use Rattle.rows.specs.Rows.{Ascending}
 use Rattle.store.specs.Views.{of_view}
 use Rattle.filters.specs.Filters.{own_after}
@@ -18,19 +17,19 @@ use Rattle.lookup_after.proofs.get_own_blocks.Goals as goal
 use Rattle.lookup_after.proofs.get_own_blocks.Goals.{After-rows-rows, After-first_above-from}
 
 ascends : (c : After-rows-rows) → Ascending c.rows-rows.result.now
-ascends c = rw c.rows-rows.ensures (after_checked c.args.view.now c.args.from_excluded c.in_ok-check_after.ensures).ascends
+ascends c = rw c.rows-rows.ensures (after_checked c.args.view.now c.args.from_excluded (sym c.in_default.is ∙ c.check_after.ensures)).ascends
 
 within : (c : After-first_above-from) → c.first_above-from.result ≤ length c.rows-rows.result.now
 within c = after_part_within c.rows-rows.result.now (ascends (goal.at.After-first_above-from c).After-rows-rows) c.args.from_excluded c.first_above-from.ensures
 
-pub returns-in_err-check_after : goal.returns-in_err-check_after
-returns-in_err-check_after c =
+pub returns-in-Err : goal.returns-in-Err
+returns-in-Err c =
     let a = c.args in
-    query_refused (get_own_blocks (of_view call_of a.view.now) a.from_excluded a.limit) c.in_err-check_after.ensures
-    (handed_on c.from_residual.result c.from_residual.ensures) c.clear.ensures
+    query_refused (get_own_blocks (of_view call_of a.view.now) a.from_excluded a.limit) (sym c.in-Err.is ∙ c.check_after.ensures)
+    c.refuse.ensures.value c.refuse.ensures.out_after
 
 pub rows-rows-requires : goal.rows-rows-requires
-rows-rows-requires c = (after_checked c.args.view.now c.args.from_excluded c.in_ok-check_after.ensures).fits
+rows-rows-requires c = (after_checked c.args.view.now c.args.from_excluded (sym c.in_default.is ∙ c.check_after.ensures)).fits
 
 pub first_above-from-requires : goal.first_above-from-requires
 first_above-from-requires c = ascends (goal.at.first_above-from-requires c).After-rows-rows
@@ -50,8 +49,8 @@ returns c =
     let own = a.view.now.store.authority in
     let rows = c.rows-rows.result.now in
     let from = c.first_above-from.result in
-    query_answers (of_view call_of a.view.now) _ c.in_ok-check_after.ensures
+    query_answers (of_view call_of a.view.now) _ (sym c.in_default.is ∙ c.check_after.ensures)
     (ap (chosen (Some own) a.limit) (part_behind rows from)
     ∙ own_chosen rows (ascends (goal.at.returns c).After-rows-rows) a.from_excluded c.first_above-from.ensures own a.limit
     ∙ ap (own_after own a.from_excluded a.limit) c.rows-rows.ensures)
-    c.clear.ensures c.answer.ensures
+    c.answer.ensures

@@ -29,7 +29,7 @@ answered : (c : After-finish-looked) → c.finish-looked.result ≡ looked_up c.
 answered c =
     let store = c.args.view.now.store in
     c.finish-looked.ensures
-    ∙ ap₂ (λ (r : Result Collected Refusal) (n : ℕ). finished store r (n / 8)) c.collect-collected.ensures.value c.collect-collected.auto.out
+    ∙ ap₂ (λ (r : Result Collected Refusal) (n : ℕ). finished store r (n / 8)) c.collect-collected.ensures.value (c.collect-collected.auto.out ∙ c.clear.auto.t)
     ∙ collected_answer store (asked c) (lent c) (blocks c)
 
 pub returns-then-is_err : goal.returns-then-is_err
@@ -38,9 +38,9 @@ returns-then-is_err c =
     let f = (goal.at.returns-then-is_err c).After-finish-looked in
     let refused = ap is_err (sym (answered f)) ∙ sym c.is_err.ensures.value ∙ c.if-is_err.true in
     query_collected (of_view call_of v) (asked f) (answered f)
-    (c.clear.ensures
+    (c.clear-then-is_err.ensures
     ∙ refused_words v.store (asked f) (lent f) (fitting (lent f) (blocks f)) (length c.collect-collected.new.out) refused
-    ∙ ap (λ (n : ℕ). answer_words n (fitting (lent f) (blocks f))) c.collect-collected.auto.out)
+    ∙ ap (λ (n : ℕ). answer_words n (fitting (lent f) (blocks f))) (c.collect-collected.auto.out ∙ c.clear.auto.t))
 
 pub returns-else-is_err : goal.returns-else-is_err
 returns-else-is_err c =
@@ -48,6 +48,6 @@ returns-else-is_err c =
     let f = (goal.at.returns-else-is_err c).After-finish-looked in
     let fits = ap is_err (sym (answered f)) ∙ sym c.is_err.ensures.value ∙ c.if-is_err.false in
     query_collected (of_view call_of v) (asked f) (answered f)
-    (answered_words v.store (asked f) (lent f) (blocks f) c.collect-collected.new.out (ap (λ (n : ℕ). n / 8) (sym c.collect-collected.auto.out))
+    (answered_words v.store (asked f) (lent f) (blocks f) c.collect-collected.new.out (ap (λ (n : ℕ). n / 8) (sym (c.collect-collected.auto.out ∙ c.clear.auto.t)))
     c.collect-collected.ensures.holds_rows fits
-    ∙ ap (λ (n : ℕ). answer_words n (fitting (lent f) (blocks f))) c.collect-collected.auto.out)
+    ∙ ap (λ (n : ℕ). answer_words n (fitting (lent f) (blocks f))) (c.collect-collected.auto.out ∙ c.clear.auto.t))

@@ -146,15 +146,7 @@ pub extern "C" fn kadzhomir_recover(
         image,
         used,
     };
-    let r = recovery::recover(
-        &log,
-        size,
-        own,
-        pending,
-        unprocessed,
-        committed,
-        index,
-    );
+    let r = recovery::recover(&log, size, own, pending, unprocessed, committed, index);
     node_words::put_recovered(answer, r);
     number_at(&r.walked)
 }
@@ -187,16 +179,7 @@ pub extern "C" fn kadzhomir_recovery_page(
         image,
         used,
     };
-    let r = page::recovery_page(
-        &log,
-        size,
-        own,
-        pending,
-        unprocessed,
-        committed,
-        index,
-        out,
-    );
+    let r = page::recovery_page(&log, size, own, pending, unprocessed, committed, index, out);
     *length = r.length as u64;
     number_of(&r.recovered)
 }
@@ -357,11 +340,7 @@ pub extern "C" fn kadzhomir_all_blocks_exists_at_authority_round(
         result answer.new }
 {
     let view = node_store::view_of(k, image, used, store, index);
-    let told = exists::all_blocks_exists_at_authority_round(
-        &view,
-        authorities,
-        round,
-    );
+    let told = exists::all_blocks_exists_at_authority_round(&view, authorities, round);
     node_answers::put_told(answer, told)
 }
 
@@ -476,13 +455,7 @@ pub extern "C" fn kadzhomir_get_others_blocks(
         store.old result store.new answer.new out.old out.new }
 {
     let view = node_store::view_of(k, image, used, store, index);
-    let r = lookup_after::get_others_blocks(
-        &view,
-        from_excluded,
-        authority,
-        limit,
-        out,
-    );
+    let r = lookup_after::get_others_blocks(&view, from_excluded, authority, limit, out);
     node_answers::put_looked(store, answer, r)
 }
 

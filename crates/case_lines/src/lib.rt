@@ -2,7 +2,7 @@
 // output, and checksums over words, so that a line can speak of a whole table.
 #![tactic(auto)]
 
-ghost use Rattle.std.specs.Prelude.{◌≡◌, ◌≤◌, length, IfOk};
+ghost use Rattle.std.specs.Prelude.{◌≡◌, ◌≤◌, length, get_or, IfOk};
 ghost use Rattle.laws.specs.Bytes.{le};
 ghost use Rattle.laws.specs.Parse.{joined};
 ghost use Rattle.checksum.specs.Crc32.{feed};
@@ -58,6 +58,13 @@ pub fn number_at(s: &[u8], at: usize) -> u64
         Some((n, _)) => n,
         None => 0,
     }
+}
+
+// The word at `at`, 0 where there is none.
+pub fn word_at(t: &[u64], at: usize) -> u64
+    ensures { result ≡ get_or t.now at 0 }
+{
+    t.get(at).copied().unwrap_or(0)
 }
 
 // The place behind the bytes whose length stands at `at`.

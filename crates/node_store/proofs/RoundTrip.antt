@@ -18,6 +18,7 @@ use Rattle.laws.proofs.Written.{length_bytes_at, bytes_at_add}
 use Rattle.types.specs.declared.BlockReference.{BlockReference}
 use Rattle.index.specs.Keys.{of_be, Digested, digest_words, key_words}
 use Rattle.laws.proofs.AllBytes.{bytes_part}
+use Rattle.text.proofs.Clipped.{clipped_fits}
 use Rattle.index.proofs.BigEndian.{of_be_lt}
 use Rattle.wal.specs.declared.Walked.{Walked}
 use Rattle.wal.specs.declared.RefusedAt.{RefusedAt}
@@ -33,7 +34,7 @@ use Rattle.recovered.specs.Answers.{writer_behind, resumed_of}
 use Rattle.store.specs.Store.{opened_by, opened, opened_of}
 use Rattle.store.specs.declared.BlockStore.{BlockStore}
 use Rattle.node_words.specs.Words.{walked_words, number_at, span_words, found_words, head_words, summary_words, recovered_words}
-use Rattle.node_store.specs.Stores.{store_words, words_at, be, flagged, digest_at, reference_at, reference_of, summary_in, store_of, recovery_number, resumed_used, opened_words, opened_number}
+use Rattle.node_store.specs.Stores.{store_words, words_at, be, flagged, digest_at, reference_at, reference_of, summary_in, store_of, reference_kept, store_after, recovery_number, resumed_used, opened_words, opened_number}
 use Rattle.node_store.proofs.Stores.{length_be}
 use Rattle.node_words.proofs.Words.{long_walked, long_head, long_span, long_found}
 use Rattle.node_words.proofs.Long.{summary_long, rounds_long_lem}
@@ -179,8 +180,51 @@ module _ (size own rows loads highest : ℕ) (seen : List ℕ) (long : length se
             };
       }
 
+  -- and where six words that say nothing stand in the reference's place
+  without_own_block : (a b c d e f : ℕ)
+      → store_of (size ∷ own ∷ rows ∷ loads ∷ 0 ∷ a ∷ b ∷ c ∷ d ∷ e ∷ f ∷ highest ∷ (seen ++ rest)) ≡ store None
+  unfolding store_of summary_in flagged pick
+  without_own_block a b c d e f =
+      λ i.
+      record {
+        committee_size = size;
+        authority = own;
+        rows = rows;
+        loads = loads;
+        summary =
+            record {
+              highest_round = highest;
+              last_seen_by_authority =
+                  seen_back (size ∷ own ∷ rows ∷ loads ∷ 0 ∷ a ∷ b ∷ c ∷ d ∷ e ∷ f ∷ highest ∷ []) refl i;
+              last_own_block = None;
+            };
+      }
+
+module _ (size own rows loads highest : ℕ) (seen : List ℕ) (long : length seen ≡ 128) (w : List ℕ) where
+  by_kept : (f : Option BlockReference) → OwnDigested f
+      → store_of (reference_kept (words_at w 5 6) f (store_words (store size own rows loads highest seen long [] f)))
+      ≡ store size own rows loads highest seen long [] f
+  unfolding reference_kept words_at store_words summary_words found_words
+  by_kept None digested =
+      ap store_of
+      (clipped_fits (store_words (store size own rows loads highest seen long [] None)) 5 (words_at w 5 6) (omega (arith, long))
+      ∙ ap
+      (λ (l : List ℕ). size ∷ own ∷ rows ∷ loads ∷ 0 ∷ get_or w 5 0 ∷ get_or w 6 0 ∷ get_or w 7 0 ∷ get_or w 8 0 ∷ get_or w 9 0 ∷ get_or w 10 0 ∷ highest ∷ l)
+      (sym (append-nil seen)))
+      ∙ without_own_block size own rows loads highest seen long [] (get_or w 5 0) (get_or w 6 0) (get_or w 7 0) (get_or w 8 0) (get_or w 9 0) (get_or w 10 0)
+  by_kept (Some r) digested =
+      ap store_of (sym (append-nil (store_words (store size own rows loads highest seen long [] (Some r)))))
+      ∙ by_own_block size own rows loads highest seen long [] (Some r) digested
+
 module _ (s : BlockStore) (rounds : length s.summary.last_seen_by_authority ≡ 128) where
   module _ (own : OwnDigested s.summary.last_own_block) where
+    -- The store that the words stand for that a call leaves is the one that it leaves, whatever words it was lent.
+    pub store_left : (w : List ℕ) → store_of (store_after w (Some s)) ≡ s
+    unfolding store_after
+    store_left w =
+        by_kept s.committee_size s.authority s.rows s.loads s.summary.highest_round s.summary.last_seen_by_authority rounds w
+        s.summary.last_own_block own
+
     -- the store that a store's words stand for, whatever stands behind them
     pub store_behind : (rest : List ℕ) → store_of (store_words s ++ rest) ≡ s
     store_behind rest =

@@ -8,6 +8,7 @@ use Rattle.index.specs.declared.StoreSummary.{StoreSummary}
 use Rattle.std.specs.Borrow.{Bor}
 use Rattle.store.specs.declared.BlockStore.{BlockStore}
 use Rattle.store.specs.declared.StoreView.{StoreView}
+use Rattle.text.specs.Clipped.{clipped}
 use Rattle.node_words.specs.Words.{summary_words}
 
 -- 140 words: the committee's size, the own authority, the index rows counted, the loads, and the summary
@@ -67,10 +68,16 @@ viewed k image used w index =
 
 -- ---- The words that a call leaves
 
+-- The words v of a store, put over the words that a call was lent: where there is no own block, the words of its reference, six from index 5
+-- on, stay the lent ones, which are l.
+unfoldable pub reference_kept : List ℕ → Option BlockReference → List ℕ → List ℕ
+reference_kept l None v = clipped v 5 l
+reference_kept l (Some r) v = v
+
 -- after a call that leaves a store, and after one that leaves none, since it is refused: that one changes no word
 unfoldable pub store_after : List ℕ → Option BlockStore → List ℕ
 store_after w None = w
-store_after w (Some s) = store_words s
+store_after w (Some s) = reference_kept (words_at w 5 6) s.summary.last_own_block (store_words s)
 
 -- ---- What a recovery's answer leaves
 

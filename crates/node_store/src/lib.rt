@@ -6,7 +6,7 @@
 ghost use Rattle.std.specs.Prelude.{◌≡◌, ◌+◌, ◌≤◌, get_or};
 ghost use Rattle.laws.specs.Bytes.{written};
 ghost use Rattle.text.specs.Clipped.{clipped};
-ghost use Rattle.node_store.specs.Stores.{be, viewed, words_at, digest_at, reference_at, summary_in, store_of, store_words, store_after, recovery_number, resumed_used, opened_number, opened_words, opened_after};
+ghost use Rattle.node_store.specs.Stores.{be, viewed, words_at, digest_at, reference_at, summary_in, store_of, store_words, reference_kept, store_after, recovery_number, resumed_used, opened_number, opened_words, opened_after};
 
 use crypto::BlockDigest;
 use index::StoreSummary;
@@ -125,13 +125,42 @@ fn put_store(out: &mut [u64], s: BlockStore)
     node_words::put_summary(out, 4, s.summary);
 }
 
+// The six words of the reference in a store's words.
+#[tactic(auto, unfolding(crate::specs::Stores::words_at))]
+fn lent_reference(words: &[u64]) -> [u64; 6]
+    ensures { result ≡ words_at words.now 5 6 }
+{
+    [
+        word_at(words, 5, 0),
+        word_at(words, 6, 0),
+        word_at(words, 7, 0),
+        word_at(words, 8, 0),
+        word_at(words, 9, 0),
+        word_at(words, 10, 0),
+    ]
+}
+
+// Puts back the words of the reference that a call was lent, where the store that it leaves has no own
+// block: they say nothing there, and are the caller's.
+#[tactic(auto, unfolding(crate::specs::Stores::reference_kept))]
+fn keep_reference(out: &mut [u64], lent: &[u64; 6], last_own_block: Option<BlockReference>)
+    ensures { out.new ≡ reference_kept lent.now last_own_block out.old }
+{
+    match last_own_block {
+        None => node_words::put_words(out, 5, lent),
+        Some(_) => {}
+    }
+}
+
 // Puts the store that a call leaves; a refused one leaves none, and the words as they are.
 #[tactic(auto, unfolding(crate::specs::Stores::store_after))]
 pub fn keep_store(out: &mut [u64; 140], kept: Option<BlockStore>)
     ensures { out.new ≡ store_after out.old kept }
 {
     if let Some(store) = kept {
+        let lent = lent_reference(out);
         put_store(out, store);
+        keep_reference(out, &lent, store.summary.last_own_block);
     }
 }
 

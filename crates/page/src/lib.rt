@@ -62,7 +62,7 @@ pub fn recovery_page(
             }
         }
         Err(at) => {
-            let length = put_number_line(out, at.refusal);
+            let length = put_number_line(out, at.refusal.number());
             Paged {
                 recovered: Err(at.refusal),
                 length,
@@ -78,10 +78,10 @@ pub fn input_page(input: &[u8], out: &mut [u8]) -> usize
     ensures upper_bound { result ≤ 309301 }
 {
     if INPUT_MAX < input.len() {
-        return put_number_line(out, Refusal::Used);
+        return put_number_line(out, Refusal::Used.number());
     }
     let [exponent, size, own, image @ ..] = input else {
-        return put_number_line(out, Refusal::RegionExponent);
+        return put_number_line(out, Refusal::RegionExponent.number());
     };
     let log = Log {
         exponent: u64::from(*exponent),

@@ -6,11 +6,9 @@ ghost use Rattle.std.specs.Prelude.{[], ◌∷◌, ◌++◌, ◌+◌, ◌-◌, �
 ghost use Rattle.laws.specs.Ascii.{line_feed};
 ghost use Rattle.text.specs.Columns.{blanks};
 ghost use Rattle.text.specs.Put.{Put};
-ghost use Rattle.refusal.specs.Refusals.{number};
 ghost use Rattle.page_lines.specs.Lines.{heading, number_line};
 ghost use Rattle.page_lines.specs.Words.{count_field, kind_field, row_text, foot_text};
 
-use refusal::Refusal;
 use wal::Stop;
 
 // The columns of a line.
@@ -45,10 +43,10 @@ pub fn put_heading(out: &mut [u8], at: usize) -> usize
 }
 
 // The line of a refused recovery.
-pub fn put_number_line(out: &mut [u8], refusal: Refusal) -> usize
-    ensures { Put 0 (number_line (number refusal)) out.old out.new result }
+pub fn put_number_line(out: &mut [u8], number: u8) -> usize
+    ensures { Put 0 (number_line number) out.old out.new result }
 {
-    let end = text::put_right(out, 0, 13, u64::from(refusal.number()));
+    let end = text::put_right(out, 0, 13, u64::from(number));
     put_end(out, 0, end)
 }
 

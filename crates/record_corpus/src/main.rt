@@ -1,8 +1,9 @@
 // Decodes and encodes again the records of the file `stdin`, each also cut at every byte and with each
 // byte changed in three ways, and writes a line for each record: its kind and length, how many of
 // those decode, and a checksum over a 0 for each that does not and a 1 and the bytes encoded again
-// for each that does, and the values of some fields. `stdin` and `stdout` were made by tools/oracle with the Rust's own types and
-// bincode 1.3.3: the records, and what the Rust says of each.
+// for each that does, and the values of some fields, 0 where the record does not decode. `stdin` and
+// `stdout` were made by tools/oracle with the Rust's own types and bincode 1.3.3: the records, and
+// what the Rust says of each.
 #![tactic(auto)]
 
 ghost use Rattle.std.specs.Prelude.{◌<◌, length};
@@ -164,38 +165,55 @@ fn show_block(rt: &impl Print, block: StatementBlock) -> io::Result<()> {
     number(rt, u64::from(block.epoch_marker))
 }
 
-// The values of some fields, so that two fields exchanged on both ways would show.
-fn show_fields(rt: &impl Print, kind: u8, s: &[u8]) -> io::Result<()> {
-    if kind == 1
-        && let Some((reference, _)) = BlockReference::decode(s, 0)
-    {
-        show_reference(rt, reference)?;
-    }
-    if kind == 2
-        && let Some((locator, _)) = TransactionLocator::decode(s, 0)
-    {
-        show_reference(rt, locator.block)?;
-        number(rt, locator.offset)?;
-    }
-    if kind == 3
-        && let Some((range, _)) = TransactionLocatorRange::decode(s, 0)
-    {
-        number(rt, range.block.authority)?;
-        number(rt, range.offset_start_inclusive)?;
-        number(rt, range.offset_end_exclusive)?;
-    }
-    if kind == 5
-        && let Some((block, _)) = StatementBlock::decode(s, 0)
-    {
-        show_block(rt, block)?;
-    }
-    if kind == 7
-        && let Some((own_block, _)) = OwnBlockData::decode(s, 0)
-    {
-        number(rt, own_block.next_entry.0)?;
-        show_block(rt, own_block.block)?;
+// The fields of a record that does not decode.
+fn show_zeros(rt: &impl Print, fields: u8) -> io::Result<()> {
+    for _ in 0..fields {
+        number(rt, 0)?;
     }
     Ok(())
+}
+
+fn show_locator(rt: &impl Print, locator: TransactionLocator) -> io::Result<()> {
+    show_reference(rt, locator.block)?;
+    number(rt, locator.offset)
+}
+
+fn show_range(rt: &impl Print, range: TransactionLocatorRange) -> io::Result<()> {
+    number(rt, range.block.authority)?;
+    number(rt, range.offset_start_inclusive)?;
+    number(rt, range.offset_end_exclusive)
+}
+
+fn show_own_block(rt: &impl Print, own_block: OwnBlockData) -> io::Result<()> {
+    number(rt, own_block.next_entry.0)?;
+    show_block(rt, own_block.block)
+}
+
+// The values of some fields, so that two fields exchanged on both ways would show.
+fn show_fields(rt: &impl Print, kind: u8, s: &[u8]) -> io::Result<()> {
+    match kind {
+        1 => match BlockReference::decode(s, 0) {
+            Some((reference, _)) => show_reference(rt, reference),
+            None => show_zeros(rt, 2),
+        },
+        2 => match TransactionLocator::decode(s, 0) {
+            Some((locator, _)) => show_locator(rt, locator),
+            None => show_zeros(rt, 3),
+        },
+        3 => match TransactionLocatorRange::decode(s, 0) {
+            Some((range, _)) => show_range(rt, range),
+            None => show_zeros(rt, 3),
+        },
+        5 => match StatementBlock::decode(s, 0) {
+            Some((block, _)) => show_block(rt, block),
+            None => show_zeros(rt, 7),
+        },
+        7 => match OwnBlockData::decode(s, 0) {
+            Some((own_block, _)) => show_own_block(rt, own_block),
+            None => show_zeros(rt, 8),
+        },
+        _ => Ok(()),
+    }
 }
 
 fn show(rt: &impl Print, kind: u8, s: &mut [u8]) -> io::Result<()> {

@@ -76,7 +76,7 @@ pub enum Question<'a> {
     AllExist(RoundNumber, Authorities),
 }
 
-// The first `count` of the words.
+// The first `count` of the words, where there are so many.
 #[derive(Clone, Copy)]
 pub struct Authorities {
     pub count: usize,
@@ -109,7 +109,9 @@ fn reference_at(s: &[u8], at: usize) -> BlockReference {
 // The place behind the words whose number stands at `at`.
 fn behind_words(s: &[u8], at: usize) -> usize {
     let n = number_at(s, at) as usize;
-    plus(plus(at, 8), n.saturating_mul(8))
+    // So many words as 2^60 are behind every input, and their bytes may have no number.
+    let bytes = if n < 0x1000_0000_0000_0000 { 8 * n } else { n };
+    plus(plus(at, 8), bytes)
 }
 
 fn load_words(s: &[u8], at: usize, t: &mut [u64]) {
@@ -127,7 +129,7 @@ fn load_bytes(bytes: &[u8], image: &mut [u8]) {
     }
 }
 
-// The authorities whose number stands at `at`, up to eight of them.
+// The authorities whose number stands at `at`, the first eight of them.
 fn authorities_at(s: &[u8], at: usize) -> Authorities {
     let mut words = [0u64; 8];
     load_words(s, at, &mut words);
@@ -192,7 +194,7 @@ fn call_at(s: &[u8], at: usize) -> (Call<'_>, usize) {
             let insert = Call::Insert(number_at(s, start), bytes_at(s, second));
             (insert, behind(s, second))
         }
-        3 => (Call::Cleanup(number_at(s, start)), second),
+        0 | 3 => (Call::Cleanup(number_at(s, start)), second),
         4..=8 => {
             let (lookup, end) = lookup_at(s, kind, start);
             (Call::Look(lookup), end)
@@ -257,7 +259,7 @@ fn show_answer(rt: &impl Print, name: &[u8], answer: Result<bool, Refusal>) -> i
     end_line(rt)
 }
 
-// ---- Calls that change image or index. A refused one leaves the setting as it is.
+// ---- Calls that change image or index. A refused one leaves the setting as it is, but for `open`.
 
 fn open(rt: &impl Print, setting: Setting, image: &[u8], index: &mut [u64]) -> io::Result<Setting> {
     let mut pending = [7u64; 512];
@@ -276,8 +278,15 @@ fn open(rt: &impl Print, setting: Setting, image: &[u8], index: &mut [u64]) -> i
     );
     let opened = BlockStore::open(size, own, recovered);
     show_number(rt, b"open", &opened)?;
+    // A refused recovery leaves no row and no summary.
+    let empty = BlockStore {
+        rows: 0,
+        loads: 0,
+        summary: StoreSummary::new(),
+        ..setting.store
+    };
     let after = Setting {
-        store: opened.unwrap_or(setting.store),
+        store: opened.unwrap_or(empty),
         ..setting
     };
     show_setting(rt, after, image, index)?;
@@ -441,9 +450,11 @@ fn ask(
             show_answer(rt, b"block_exists_at_authority_round", answer)?;
         }
         Question::AllExist(round, authorities) => {
-            let all = &authorities.words[..8.min(authorities.count)];
-            let answer = exists::all_blocks_exists_at_authority_round(view, all, round);
-            show_answer(rt, b"all_blocks_exists_at_authority_round", answer)?;
+            // More than eight are not asked about.
+            if let Some(all) = authorities.words.get(..authorities.count) {
+                let answer = exists::all_blocks_exists_at_authority_round(view, all, round);
+                show_answer(rt, b"all_blocks_exists_at_authority_round", answer)?;
+            }
         }
     }
     Ok(view.store)

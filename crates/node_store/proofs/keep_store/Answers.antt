@@ -12,4 +12,5 @@ unfolding store_after
 returns-in-Some c =
     let s = c.in-Some.store in
     let rounds : length s.summary.last_seen_by_authority ≡ 128 = search rules in
-    rw c.in-Some.is (c.put_store.ensures ∙ over_all c.args.out.now (store_words s) (c.told-out ∙ sym (store_long s rounds)))
+    let put = c.put_store.ensures ∙ over_all c.args.out.now (store_words s) (c.told-out ∙ sym (store_long s rounds)) in
+    rw c.in-Some.is (rw (put, c.lent_reference-lent.ensures) at c.keep_reference.ensures)

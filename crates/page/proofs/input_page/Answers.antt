@@ -18,13 +18,13 @@ printed input all put = (put, omega (arith, put.next, room input all))
 pub returns-then-input-gt-INPUT_MAX : goal.returns-then-input-gt-INPUT_MAX
 returns-then-input-gt-INPUT_MAX c =
     let input = c.args.input.now in
-    let put = printed input (λ n. (c.type_inv.input n).fits) (rw (prints_long input (omega arith)) c.put_number_line.ensures) in
+    let put = printed input (λ n. (c.type_inv.input n).fits) (rw (prints_long input (omega arith)) (rw c.number.ensures at c.put_number_line.ensures)) in
     record { put = put.0; upper_bound = put.1 }
 
 pub returns-in_default : goal.returns-in_default
 returns-in_default c =
     let input = c.args.input.now in
-    let put = printed input (λ n. (c.type_inv.input n).fits) (rw (prints_short input c.in_default.len_below) c.put_number_line-in_default.ensures) in
+    let put = printed input (λ n. (c.type_inv.input n).fits) (rw (prints_short input c.in_default.len_below) (rw c.number-in_default.ensures at c.put_number_line-in_default.ensures)) in
     record { put = put.0; upper_bound = put.1 }
 
 pub returns : goal.returns

@@ -33,4 +33,4 @@ pub returns-in-Err : goal.returns-in-Err
 returns-in-Err c =
     let a = c.args in
     let log = a.log.now in
-    refused_page log.exponent log.image.now log.used a.size a.own (tables a.pending.now a.unprocessed.now a.committed.now a.index.now) c.recover-r.ensures c.in-Err.is c.put_number_line-length.ensures
+    refused_page log.exponent log.image.now log.used a.size a.own (tables a.pending.now a.unprocessed.now a.committed.now a.index.now) c.recover-r.ensures c.in-Err.is (rw c.number.ensures at c.put_number_line-length.ensures)

@@ -12,7 +12,7 @@ put_end-requires c =
 pub returns : goal.returns
 unfolding number_line
 returns c =
-    rw (← c.from.ensures ∙ c.number.ensures)
+    rw (← c.from.ensures)
     (line_put c.put_right-end.ensures
     (omega (arith, right_ends _ _ (omega arith) (omega arith) c.put_right-end.ensures))
     c.put_end.ensures).0

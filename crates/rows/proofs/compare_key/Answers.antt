@@ -4,16 +4,16 @@ use Rattle.rows.proofs.Comparing.{comparing_start, comparing_below, comparing_ab
 use Rattle.rows.proofs.compare_key.Goals as goal
 
 pub loop-j-init : goal.loop-j-init
-loop-j-init c = comparing_start c.args.row.now c.args.k.now
+loop-j-init _ c = comparing_start c.args.row.now c.args.k.now
 
 pub returns-then-row-j : goal.returns-then-row-j
-returns-then-row-j c = comparing_below c.loop-j.invariant (omega arith) (omega arith) (omega arith) (omega arith)
+returns-then-row-j _ c = comparing_below c.loop-j.invariant (omega arith) (omega arith) (omega arith) (omega arith)
 
 pub returns-then-k-j : goal.returns-then-k-j
-returns-then-k-j c = comparing_above c.loop-j.invariant (omega arith) (omega arith) (omega arith) (omega arith)
+returns-then-k-j _ c = comparing_above c.loop-j.invariant (omega arith) (omega arith) (omega arith) (omega arith)
 
 pub loop-j-preserved : goal.loop-j-preserved
-loop-j-preserved c = comparing_next c.loop-j.invariant (omega arith) (omega arith) (omega arith) (omega arith) (omega arith)
+loop-j-preserved _ c = comparing_next c.loop-j.invariant (omega arith) (omega arith) (omega arith) (omega arith) (omega arith)
 
 pub returns : goal.returns
-returns c = comparing_done c.loop-j.invariant (omega arith) (omega arith) (omega arith)
+returns _ c = comparing_done c.loop-j.invariant (omega arith) (omega arith) (omega arith)

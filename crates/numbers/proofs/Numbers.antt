@@ -13,14 +13,14 @@ use Rattle.refusal.specs.declared.Refusal.{Refusal}
 use Rattle.refusal.specs.declared.Refusal.TheVariants.{Block, Rows}
 use Rattle.refusal.specs.Refusals.{number, number_of, as_refused}
 use Rattle.refusal.specs.Tabled.{Tabled}
-use Rattle.refusal.proofs.Numbers.{tabled, numbered, positive_number}
+use Rattle.refusal.proofs.Numbers.{tabled, numbered, positive_number, checked_number}
 use Rattle.types.specs.declared.BlockReference.{BlockReference}
 use Rattle.types.specs.Records.{BlockValue, block}
-use Rattle.wal_position.specs.Checks.{unless}
-use Rattle.wal_position.proofs.Checks.{unless_number}
+use Rattle.wal_position.specs.Checks.{unless, log_check}
+use Rattle.wal_position.proofs.Checks.{unless_number, log_tabled}
 use Rattle.wal_writer.specs.Append as append
 use Rattle.wal_writer.specs.Append.{Placed, accepted}
-use Rattle.wal_writer.specs.Answers.{appended_of}
+use Rattle.wal_writer.specs.Answers.{place_of, appended_of}
 use Rattle.wal_reader.specs.Read.{Read}
 use Rattle.wal_reader.specs.Answers.{found_of}
 use Rattle.wal_reader.proofs.ReadAnswers.{TabledRead, read_no, read_yes, read_at_tabled}
@@ -42,7 +42,7 @@ use Rattle.store.specs.declared.BlockStore.{BlockStore}
 use Rattle.store.specs.Store.{indexed, call_check, opened_by}
 use Rattle.cleanup.specs.Cleanup.{clean_answer}
 use Rattle.block_reader.specs.Reading as reading
-use Rattle.block_reader.specs.Reading.{BlockRead, block_at}
+use Rattle.block_reader.specs.Reading.{BlockRead, block_at, read_of}
 use Rattle.block_reader.proofs.Reading.{TabledBlock, refused_tabled, block_at_tabled}
 use Rattle.query.specs.Query as query
 use Rattle.query.specs.Query.{Query, answers, call_of, Question, looked_up, looked}
@@ -58,7 +58,7 @@ use Rattle.wal_writer.specs.declared.WalWriter.{WalWriter}
 use Rattle.indexing.specs.Indexing.{Insertion, refuse, insert, inserted_of}
 use Rattle.insert.proofs.Numbers.{call_tabled, PlaceTabled, place_tabled, InsertionTabled, insertion_tabled}
 use Rattle.node_words.specs.Words.{number_at}
-use Rattle.numbers.specs.Numbers.{placed_number, read_number, step_number, ending_number, recovery_number, query_number, insertion_number, reads_number, first_number, KeepsLookup, Numbers}
+use Rattle.numbers.specs.Numbers.{placed_number, read_number, step_number, ending_number, recovery_number, query_number, insertion_number, block_number, reads_number, first_number, KeepsLookup, Numbers}
 
 -- ---- What the rules come to, as an answer
 
@@ -66,6 +66,16 @@ place_number : (k n : ℕ) (x : Placed) → PlaceTabled x → number_of (appende
 unfolding number_of appended_of
 place_number k n (accepted start) t = refl
 place_number k n (append.Placed.refused m) t = numbered t
+
+entry_number : (x : Placed) → PlaceTabled x → number_of (place_of x) ≡ placed_number x
+unfolding number_of place_of
+entry_number (accepted start) t = refl
+entry_number (append.Placed.refused m) t = numbered t
+
+read_block_number : (x : BlockRead) → TabledBlock x → number_of (read_of x) ≡ block_number x
+unfolding number_of read_of
+read_block_number (reading.BlockRead.got r at n) t = refl
+read_block_number (reading.BlockRead.refused n) t = numbered (refused_tabled t)
 
 found_number : {x : Read} → TabledRead x → number_of (found_of x) ≡ read_number x
 unfolding number_of found_of
@@ -201,6 +211,11 @@ numbers k image used store index =
     let c = call_of k image used store index in
     let exists = λ (b : Bool). unless_number (call_check k used (length image) store index) b check in
     record {
+      checks_log = checked_number (log_check k used (length image)) (log_tabled k used (length image));
+      checks_committee = λ size own. checked_number (committee_check size own) (committee_tabled size own);
+      checks_call = checked_number (call_check k used (length image) store index) check;
+      places = λ n. entry_number _ (place_tabled k used (length image) n);
+      reads_block = λ p. read_block_number _ (block_at_tabled k image used p);
       appends = λ w payload.
           place_number w.exponent (length payload) _ (place_tabled w.exponent w.used (length image) (length payload));
       reads = λ p. found_number (read_at_tabled k image used p);

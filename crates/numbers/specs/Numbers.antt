@@ -5,15 +5,15 @@
 use Rattle.std.specs.Prelude.{◌≡◌, List, [], ◌∷◌, ℕ, ◌/◌, leb, length, get_or}
 use Rattle.laws.specs.Pick.{pick}
 use Rattle.laws.specs.Parse.{answer}
-use Rattle.refusal.specs.Refusals.{number_of}
+use Rattle.refusal.specs.Refusals.{number_of, checked}
 use Rattle.types.specs.declared.BlockReference.{BlockReference}
 use Rattle.types.specs.declared.TransactionLocator.{TransactionLocator}
 use Rattle.types.specs.Records.{BlockValue, block}
-use Rattle.wal_position.specs.Checks.{unless}
+use Rattle.wal_position.specs.Checks.{unless, log_check}
 use Rattle.wal_writer.specs.declared.WalWriter.{WalWriter}
 use Rattle.wal_writer.specs.Append as append
-use Rattle.wal_writer.specs.Append.{Placed, accepted}
-use Rattle.wal_writer.specs.Answers.{placed, append_answer}
+use Rattle.wal_writer.specs.Append.{Placed, accepted, place}
+use Rattle.wal_writer.specs.Answers.{place_of, placed, append_answer}
 use Rattle.wal_reader.specs.Read as read
 use Rattle.wal_reader.specs.Read.{Read, found, read_at}
 use Rattle.wal_reader.specs.Answers.{read_answer}
@@ -32,7 +32,7 @@ use Rattle.store.specs.Store.{indexed, call_check, opened}
 use Rattle.exists.specs.Exists.{block_exists, block_exists_at, all_blocks_exist_at}
 use Rattle.cleanup.specs.Cleanup.{cleanup_answer}
 use Rattle.block_reader.specs.Reading as reading
-use Rattle.block_reader.specs.Reading.{BlockRead, got, block_at}
+use Rattle.block_reader.specs.Reading.{BlockRead, got, block_at, read_of}
 use Rattle.filters.specs.Filters.{by_reference}
 use Rattle.query.specs.Query as query
 use Rattle.query.specs.Query.{Query, answers, call_of, Question, looked}
@@ -99,11 +99,18 @@ KeepsLookup q = (words : ℕ) → number_of (looked q words) ≡ query_number (q
 -- The calls on this log, and on the store that is lent with it. An append has its own writer, and a read, a step, a walk and a recovery
 -- take no store.
 pub record Keeps (k : ℕ) (image : List ℕ) (used : ℕ) (store : BlockStore) (index : List ℕ) : Type 0 where
-  -- "Append checks 1, 2, 3, 4."
+  -- the checks 1 and 2, of a committee 18, and all three of a lent store
+  pub checks_log : number_of (checked (log_check k used (length image))) ≡ log_check k used (length image)
+  pub checks_committee : (size own : ℕ) → number_of (checked (committee_check size own)) ≡ committee_check size own
+  pub checks_call : number_of (checked (call_check k used (length image) store index)) ≡ call_check k used (length image) store index
+  -- "Append checks 1, 2, 3, 4.", and so does the place of an entry of n bytes by itself
+  pub places : (n : ℕ) → number_of (place_of (place k used (length image) n)) ≡ placed_number (place k used (length image) n)
   pub appends : (w : WalWriter) (payload : List ℕ)
       → number_of (append_answer w image payload) ≡ placed_number (placed w image payload)
   -- "Read checks 1, 2, 17 (position), 16 (region), 17 (header), 16 or 5, 6, 17 (payload), 7."
   pub reads : (p : ℕ) → number_of (read_answer k image used p) ≡ read_number (read_at k image used p)
+  -- a block that is read by its position: a read's numbers, 8, and 9 or 10
+  pub reads_block : (p : ℕ) → number_of (read_of (block_at k image used p)) ≡ block_number (block_at k image used p)
   -- "A walk checks 1, 2, then per entry 5, 6, 7."
   pub steps : (e : ℕ) → number_at (walk_step_answer k image used e) ≡ step_number (walk_step k image used e)
   pub walks : number_at (walk_answer k image used) ≡ ending_number (walk.walk k image used).ending

@@ -177,7 +177,8 @@ enum kadzhomir_row_words {
 };
 
 /* A store. ROWS are the index rows counted; the index has an own block where THERE is not 0, and else its reference is
-   zero; LAST_SEEN is the first of the last seen rounds, one for each of KADZHOMIR_AUTHORITIES. */
+   zero, unless other words were lent there, which stay; LAST_SEEN is the first of the last seen rounds, one for each of
+   KADZHOMIR_AUTHORITIES. */
 enum kadzhomir_store_words {
     KADZHOMIR_STORE_COMMITTEE_SIZE = 0,
     KADZHOMIR_STORE_OWN_AUTHORITY = 1,
